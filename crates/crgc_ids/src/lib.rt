@@ -5,7 +5,7 @@ mod ids;
 mod lists;
 
 pub use ids::{ActorId, NodeId};
-pub use lists::{ItemList, RefList};
+pub use lists::{ActorList, ItemList, Octets, RefList};
 
 /// Want of memory: the allocator gave none.
 #[derive(Clone, Copy, PartialEq, Eq, Debug)]

@@ -1,6 +1,8 @@
 //! Small lists, which contracts see as lists.
-ghost use Rattle.std.specs.Prelude.{◌≡◌, ◌<◌, ◌≤◌, ◌↔◌, [], ◌∷◌, ◌++◌, length, OnOk, OnErr, IfOk, slice_get};
+ghost use Rattle.std.specs.Prelude.{◌≡◌, ◌^◌, ◌<◌, ◌≤◌, ◌↔◌, [], ◌∷◌, ◌++◌, length, OnOk, OnErr, IfOk, slice_get};
 ghost use Rattle.std.specs.Option.{option_copied};
+ghost use Rattle.std.specs.Slice.Iter.{iter_rest};
+ghost use Rattle.std.specs.Iterator.Adapters.{IterYieldsInOrder, IterYieldsInReverse};
 
 use crate::NoMemory;
 use crate::ids::ActorId;
@@ -71,6 +73,17 @@ impl<T> ItemList<T> {
         self.items.get(i)
     }
 
+    /// The items in order.
+    pub fn iter(&self) -> Iter<'_, T>
+        ensures rest { iter_rest result ≡ self.now }
+        ensures len { length (iter_rest result) ≡ length self.now }
+        ensures bound { length (iter_rest result) < 2 ^ 64 }
+        ensures runs { IterYieldsInOrder T }
+        ensures runs_back { IterYieldsInReverse T }
+    {
+        self.items.iter()
+    }
+
     /// All items as a slice.
     pub fn as_slice(&self) -> &[T]
         ensures { result.now ≡ self.now }
@@ -81,3 +94,9 @@ impl<T> ItemList<T> {
 
 /// The references that a message carries.
 pub type RefList = ItemList<ActorId>;
+
+/// Actors in the order in which they were put in.
+pub type ActorList = ItemList<ActorId>;
+
+/// Bytes in the order in which they were put in.
+pub type Octets = ItemList<u8>;
