@@ -1,1 +1,2 @@
 pub mod Actor
+pub mod Rising

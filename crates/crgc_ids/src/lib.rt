@@ -3,9 +3,11 @@
 
 mod ids;
 mod lists;
+mod rising;
 
 pub use ids::{ActorId, NodeId};
 pub use lists::{ActorList, ItemList, Octets, RefList};
+pub use rising::{ActorCount, ActorCounts, PairCount, PairCounts, RisingList, Row};
 
 /// Want of memory: the allocator gave none.
 #[derive(Clone, Copy, PartialEq, Eq, Debug)]
