@@ -12,3 +12,12 @@ pub use rising::{ActorCount, ActorCounts, PairCount, PairCounts, RisingList, Row
 /// Want of memory: the allocator gave none.
 #[derive(Clone, Copy, PartialEq, Eq, Debug)]
 pub struct NoMemory;
+
+/// Which limit was passed: the bytes of the input, the events, the actors of a node, or the bytes of a Delta.
+#[derive(Clone, Copy, PartialEq, Eq, Debug)]
+pub enum Which {
+    Input,
+    Events,
+    Actors,
+    Delta,
+}
