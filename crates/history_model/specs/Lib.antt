@@ -1,0 +1,13 @@
+pub mod Tally
+pub mod Cluster
+pub mod Messages
+pub mod Facts
+pub mod Held
+pub mod State
+pub mod Streams
+pub mod Folds
+pub mod Graph
+pub mod Sweeps
+pub mod Legal
+pub mod Quiescent
+pub mod Rows

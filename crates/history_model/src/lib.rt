@@ -1,0 +1,8 @@
+//! What is true of a history of cluster events: the plain types, and the definitions that every other crate cites.
+#![tactic(auto)]
+
+mod events;
+mod records;
+
+pub use events::{Event, Rule};
+pub use records::{Bulletin, Delta, Entry, StateRow, StateRows, Stop, StopList, Window};
