@@ -1,1 +1,3 @@
+pub mod GreatestLaws
+pub mod MembersLaws
 pub mod RisingLaws

@@ -1,2 +1,4 @@
 pub mod Actor
+pub mod Greatest
+pub mod Members
 pub mod Rising
