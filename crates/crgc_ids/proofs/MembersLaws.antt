@@ -1,6 +1,7 @@
 -- The members of lists that are joined or filtered.
-use Rattle.std.proofs.Common.{◌≡◌, ◌&&◌, ◌<◌, ◌⊎◌, ℕ, Bool, true, false, cond, List, [], ◌∷◌, ◌++◌, length, refl, sym, ◌∙◌, ap, subst, inl, inr, arith}
-use Rattle.std.specs.List.{filter}
+use Rattle.std.proofs.Common.{◌≡◌, ◌&&◌, ◌||◌, ◌<◌, ◌≤◌, ◌+◌, ◌⊎◌, ℕ, zero, suc, Bool, true, false, cond, List, [], ◌∷◌, ◌++◌, length, refl, sym, ◌∙◌, ap, subst, inl, inr, arith}
+use Rattle.std.proofs.lemmas.Bool.{cases_lt, false≢true}
+use Rattle.std.specs.List.{filter, list_all, list_any, range_with_len}
 use Rattle.crgc_ids.specs.Members.{IsAmong, IsPart}
 
 module _ {A : Type 0} where
@@ -62,3 +63,46 @@ module _ {A : Type 0} where
       elim (p x) as Twice [
         true ↦ ap (λ ys. cond (q x) (x ∷ ys) ys) (filter_twice p q xs)
       | false ↦ filter_twice p q xs ]
+
+  pub list_any-true : (p : A → Bool) (xs : List A) → list_any p xs ≡ true → (x : A) × IsAmong x xs × (p x ≡ true)
+  list_any-true p [] t = absurd (false≢true t)
+  list_any-true p (y ∷ ys) t =
+      let Found : Bool → Type 0 = λ b. p y ≡ b → (b || list_any p ys) ≡ true → (x : A) × IsAmong x (y ∷ ys) × (p x ≡ true) in
+      let found : Found (p y) = elim (p y) as Found [
+            true ↦ λ e _. (y, inl refl, e)
+          | false ↦ λ _ r. (let later = list_any-true p ys r in (later.0, inr later.1, later.2)) ] in
+      found refl t
+
+  pub list_any-member : (p : A → Bool) (x : A) (xs : List A) → IsAmong x xs → p x ≡ true → list_any p xs ≡ true
+  list_any-member p x [] h t = absurd h
+  list_any-member p x (y ∷ ys) (inl e) t = ap (λ b. b || list_any p ys) (sym (ap p e) ∙ t)
+  list_any-member p x (y ∷ ys) (inr h) t =
+      let later = list_any-member p x ys h t in
+      elim (p y) as (λ b. (b || list_any p ys) ≡ true) [ true ↦ refl | false ↦ later ]
+
+  pub list_all-true : (p : A → Bool) (x : A) (xs : List A) → list_all p xs ≡ true → IsAmong x xs → p x ≡ true
+  list_all-true p x [] t h = absurd h
+  list_all-true p x (y ∷ ys) t h =
+      let All : Bool → Type 0 = λ b. p y ≡ b → (b && list_all p ys) ≡ true → p x ≡ true in
+      let all : All (p y) = elim (p y) as All [
+            true ↦ λ e r. elim h [ inl same ↦ ap p same ∙ e | inr later ↦ list_all-true p x ys r later ]
+          | false ↦ λ _ r. absurd (false≢true r) ] in
+      all refl t
+
+  pub list_all-members : (p : A → Bool) (xs : List A) → ((x : A) → IsAmong x xs → p x ≡ true) → list_all p xs ≡ true
+  list_all-members p [] h = refl
+  list_all-members p (y ∷ ys) h =
+      ap (λ b. b && list_all p ys) (h y (inl refl)) ∙ list_all-members p ys (λ x k. h x (inr k))
+
+-- a number is among the n numbers from a on exactly where it is in their range
+pub IsAmong-range : (k a n : ℕ) → a ≤ k → k < a + n → IsAmong k (range_with_len a n)
+IsAmong-range k a zero h l = absurd (omega arith)
+IsAmong-range k a (suc n) h l =
+    elim (cases_lt a k) [ inl less ↦ inr (IsAmong-range k (a + 1) n (omega arith) (omega arith)) | inr most ↦ inl (omega arith) ]
+
+pub IsAmong-from_range : (k a n : ℕ) → IsAmong k (range_with_len a n) → (a ≤ k) × (k < a + n)
+IsAmong-from_range k a zero h = absurd h
+IsAmong-from_range k a (suc n) (inl e) = (omega arith, omega arith)
+IsAmong-from_range k a (suc n) (inr h) =
+    let later = IsAmong-from_range k (a + 1) n h in
+    (omega arith, omega arith)
