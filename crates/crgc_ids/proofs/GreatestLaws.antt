@@ -17,8 +17,9 @@ module _ {A : Type 0} (fit : List A → A → Bool) where
   prune-ends zero (x ∷ xs) h = absurd (omega arith)
   prune-ends (suc n) xs h =
       elim (filter_shortens (fit xs) xs) [
-        inl e ↦ subst (λ ys. filter (fit ys) ys ≡ ys) (sym (prune-fixed (suc n) xs e)) e
-      | inr l ↦ prune-ends n (filter (fit xs) xs) (omega arith) ]
+        | inl e ↦ subst (λ ys. filter (fit ys) ys ≡ ys) (sym (prune-fixed (suc n) xs e)) e
+        | inr l ↦ prune-ends n (filter (fit xs) xs) (omega arith)
+      ]
 
   -- what is left passes some test, in the old order
   prune-filters : (n : ℕ) (xs : List A) → (p : A → Bool) × (prune fit n xs ≡ filter p xs)
@@ -60,8 +61,9 @@ module _ {A : Type 0} (fit : List A → A → Bool) where
   pub AreFit-append : IsMonotone fit → (xs ys : List A) → AreFit fit xs → AreFit fit ys → AreFit fit (xs ++ ys)
   AreFit-append mono xs ys f g x h =
       elim (IsAmong-append_cases x xs ys h) [
-        inl k ↦ mono xs (xs ++ ys) x (λ z. IsAmong-append_left z xs ys) (f x k)
-      | inr k ↦ mono ys (xs ++ ys) x (λ z. IsAmong-append_right z xs ys) (g x k) ]
+        | inl k ↦ mono xs (xs ++ ys) x (λ z. IsAmong-append_left z xs ys) (f x k)
+        | inr k ↦ mono ys (xs ++ ys) x (λ z. IsAmong-append_right z xs ys) (g x k)
+      ]
 
 -- where more may stay, of a greater list, the greatest part is greater
 pub greatest-grows : {A : Type 0} (fit more : List A → A → Bool) → IsMonotone more → ((xs : List A) (x : A) → fit xs x ≡ true → more xs x ≡ true) → (xs ys : List A) → IsPart xs ys → IsPart (greatest fit xs) (greatest more ys)

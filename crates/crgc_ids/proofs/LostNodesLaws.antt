@@ -43,20 +43,22 @@ link_of_test links s d t =
 is_cut_off-monotone : (n : ℕ) (links : List (ℕ × ℕ)) → IsMonotone (is_cut_off n links)
 is_cut_off-monotone n links xs ys s part t =
     list_all-members (λ d. has_node ys d || has_link links s d) (nodes_below n) (λ d m.
-      elim (or_cases (has_node xs d) (has_link links s d) (list_all-true (λ k. has_node xs k || has_link links s k) d (nodes_below n) t m)) [
-        inl inside ↦ ap (λ b. b || has_link links s d) (list_any-member (λ x. eqb d x) d ys (part d (node_of_test xs d inside)) (same d))
-      | inr linked ↦ or_right (has_node ys d) (has_link links s d) linked ])
+    elim (or_cases (has_node xs d) (has_link links s d) (list_all-true (λ k. has_node xs k || has_link links s k) d (nodes_below n) t m)) [
+      | inl inside ↦ ap (λ b. b || has_link links s d) (list_any-member (λ x. eqb d x) d ys (part d (node_of_test xs d inside)) (same d))
+      | inr linked ↦ or_right (has_node ys d) (has_link links s d) linked
+    ])
 
 -- exactly the sources of links are removed
 pub removed_nodes-sources : (n : ℕ) (links : List (ℕ × ℕ)) (s : ℕ) → IsAmong s (removed_nodes n links) ↔ ((s < n) × ((d : ℕ) × IsAmong (s, d) links))
-removed_nodes-sources n links s =
-    (λ h.
+removed_nodes-sources n links s = (
+  λ h.
       let kept = IsAmong-from_filter (λ k. list_any (λ l. eqb k l.0) links) s (nodes_below n) h in
       let found = list_any-true (λ l. eqb s l.0) links kept.1 in
       let below = IsAmong-from_range s 0 n kept.0 in
       (omega arith, (found.0.1, subst (λ x. IsAmong (x, found.0.1) links) (sym ((Decides-eqb s found.0.0).0 found.2)) found.1)),
-    λ h. IsAmong-filter (λ k. list_any (λ l. eqb k l.0) links) s (nodes_below n) (IsAmong-range s 0 n (omega arith) (omega arith))
-      (list_any-member (λ l. eqb s l.0) (s, h.1.0) links h.1.1 (same s)))
+  λ h. IsAmong-filter (λ k. list_any (λ l. eqb k l.0) links) s (nodes_below n) (IsAmong-range s 0 n (omega arith) (omega arith))
+      (list_any-member (λ l. eqb s l.0) (s, h.1.0) links h.1.1 (same s)),
+)
 
 -- the lost nodes are removed and cut off
 pub lost_nodes-lost : (n : ℕ) (links : List (ℕ × ℕ)) → IsLostSet n links (lost_nodes n links)
@@ -64,11 +66,15 @@ unfolding lost_nodes
 lost_nodes-lost n links s h =
     let fit = is_cut_off n links in
     let source = (removed_nodes-sources n links s).0 (greatest-part fit (removed_nodes n links) s h) in
-    let cut_off = greatest-fit fit (removed_nodes n links) s h in
-    (source.0, source.1, λ d l outside.
-      elim (or_cases (has_node (lost_nodes n links) d) (has_link links s d) (list_all-true (λ k. has_node (lost_nodes n links) k || has_link links s k) d (nodes_below n) cut_off (IsAmong-range d 0 n (omega arith) (omega arith)))) [
-        inl inside ↦ absurd (outside (node_of_test (lost_nodes n links) d inside))
-      | inr linked ↦ link_of_test links s d linked ])
+    let cut_off = greatest-fit fit (removed_nodes n links) s h in (
+      source.0,
+      source.1,
+      λ d l outside.
+          elim (or_cases (has_node (lost_nodes n links) d) (has_link links s d) (list_all-true (λ k. has_node (lost_nodes n links) k || has_link links s k) d (nodes_below n) cut_off (IsAmong-range d 0 n (omega arith) (omega arith)))) [
+            | inl inside ↦ absurd (outside (node_of_test (lost_nodes n links) d inside))
+            | inr linked ↦ link_of_test links s d linked
+          ],
+    )
 
 -- each set of removed nodes that are cut off lies within the lost ones
 pub lost_nodes-greatest : (n : ℕ) (links : List (ℕ × ℕ)) (xs : List ℕ) → IsLostSet n links xs → IsPart xs (lost_nodes n links)
@@ -77,21 +83,23 @@ lost_nodes-greatest n links xs lost =
     greatest-contains (is_cut_off n links) (is_cut_off-monotone n links) (removed_nodes n links) xs
     (λ s h. (removed_nodes-sources n links s).1 ((lost s h).0, (lost s h).1))
     (λ s h. list_all-members (λ d. has_node xs d || has_link links s d) (nodes_below n) (λ d m.
-      let below = IsAmong-from_range d 0 n m in
-      let Reached : Bool → Type 0 = λ b. has_node xs d ≡ b → (b || has_link links s d) ≡ true in
-      let reached : Reached (has_node xs d) = elim (has_node xs d) as Reached [
-            true ↦ λ _. refl
-          | false ↦ λ outside.
-              let link = (lost s h).2 d (omega arith) (λ inside. false≢true (sym outside ∙ list_any-member (λ x. eqb d x) d xs inside (same d))) in
-              list_any-member (λ l. eqb s l.0 && eqb d l.1) (s, d) links link (ap (λ b. b && eqb d d) (same s) ∙ same d) ] in
-      reached refl))
+    let below = IsAmong-from_range d 0 n m in
+    let Reached : Bool → Type 0 = λ b. has_node xs d ≡ b → (b || has_link links s d) ≡ true in
+    let reached : Reached (has_node xs d) = elim (has_node xs d) as Reached [
+      | true ↦ λ _. refl
+      | false ↦ λ outside.
+          let link = (lost s h).2 d (omega arith) (λ inside. false≢true (sym outside ∙ list_any-member (λ x. eqb d x) d xs inside (same d))) in
+          list_any-member (λ l. eqb s l.0 && eqb d l.1) (s, d) links link (ap (λ b. b && eqb d d) (same s) ∙ same d)
+    ] in
+    reached refl))
 
 -- such sets are closed under union
 pub IsLostSet-append : (n : ℕ) (links : List (ℕ × ℕ)) (xs ys : List ℕ) → IsLostSet n links xs → IsLostSet n links ys → IsLostSet n links (xs ++ ys)
 IsLostSet-append n links xs ys f g s h =
     elim (IsAmong-append_cases s xs ys h) [
-      inl k ↦ ((f s k).0, (f s k).1, λ d l outside. (f s k).2 d l (λ m. outside (IsAmong-append_left d xs ys m)))
-    | inr k ↦ ((g s k).0, (g s k).1, λ d l outside. (g s k).2 d l (λ m. outside (IsAmong-append_right d xs ys m))) ]
+      | inl k ↦ ((f s k).0, (f s k).1, λ d l outside. (f s k).2 d l (λ m. outside (IsAmong-append_left d xs ys m)))
+      | inr k ↦ ((g s k).0, (g s k).1, λ d l outside. (g s k).2 d l (λ m. outside (IsAmong-append_right d xs ys m)))
+    ]
 
 -- as links are added, no node leaves the removed ones, and none the lost ones
 pub removed_nodes-grow : (n : ℕ) (links more : List (ℕ × ℕ)) → IsPart links more → IsPart (removed_nodes n links) (removed_nodes n more)
@@ -102,8 +110,8 @@ removed_nodes-grow n links more part s h =
 pub lost_nodes-grow : (n : ℕ) (links more : List (ℕ × ℕ)) → IsPart links more → IsPart (lost_nodes n links) (lost_nodes n more)
 lost_nodes-grow n links more part =
     lost_nodes-greatest n more (lost_nodes n links) (λ s h.
-      let lost = lost_nodes-lost n links s h in
-      (lost.0, (lost.1.0, part (s, lost.1.0) lost.1.1), λ d l outside. part (s, d) (lost.2 d l outside)))
+    let lost = lost_nodes-lost n links s h in
+    (lost.0, (lost.1.0, part (s, lost.1.0) lost.1.1), λ d l outside. part (s, d) (lost.2 d l outside)))
 
 pub removed_nodes-rise : (n : ℕ) (links : List (ℕ × ℕ)) → IsRising ◌<◌ (removed_nodes n links)
 removed_nodes-rise n links = IsRising-filter ◌<◌ (λ s. list_any (λ l. eqb s l.0) links) (nodes_below n) (IsRising-range 0 n)

@@ -37,8 +37,9 @@ module _ {A : Type 0} where
       let Kept : Bool → Type 0 = λ b. p y ≡ b → IsAmong x (cond b (y ∷ filter p ys) (filter p ys)) → IsAmong x (y ∷ ys) × (p x ≡ true) in
       let later : IsAmong x (filter p ys) → IsAmong x (y ∷ ys) × (p x ≡ true) = λ k. (inr (IsAmong-from_filter p x ys k).0, (IsAmong-from_filter p x ys k).1) in
       let kept : Kept (p y) = elim (p y) as Kept [
-            true ↦ λ t k. elim k [ inl e ↦ (inl e, ap p e ∙ t) | inr m ↦ later m ]
-          | false ↦ λ t k. later k ] in
+        | true ↦ λ t k. elim k [ inl e ↦ (inl e, ap p e ∙ t) | inr m ↦ later m ]
+        | false ↦ λ t k. later k
+      ] in
       kept refl h
 
   -- a filter takes nothing away, or leaves a shorter list
@@ -61,16 +62,18 @@ module _ {A : Type 0} where
   filter_twice p q (x ∷ xs) =
       let Twice : Bool → Type 0 = λ b. filter q (cond b (x ∷ filter p xs) (filter p xs)) ≡ cond (b && q x) (x ∷ filter (λ y. p y && q y) xs) (filter (λ y. p y && q y) xs) in
       elim (p x) as Twice [
-        true ↦ ap (λ ys. cond (q x) (x ∷ ys) ys) (filter_twice p q xs)
-      | false ↦ filter_twice p q xs ]
+        | true ↦ ap (λ ys. cond (q x) (x ∷ ys) ys) (filter_twice p q xs)
+        | false ↦ filter_twice p q xs
+      ]
 
   pub list_any-true : (p : A → Bool) (xs : List A) → list_any p xs ≡ true → (x : A) × IsAmong x xs × (p x ≡ true)
   list_any-true p [] t = absurd (false≢true t)
   list_any-true p (y ∷ ys) t =
       let Found : Bool → Type 0 = λ b. p y ≡ b → (b || list_any p ys) ≡ true → (x : A) × IsAmong x (y ∷ ys) × (p x ≡ true) in
       let found : Found (p y) = elim (p y) as Found [
-            true ↦ λ e _. (y, inl refl, e)
-          | false ↦ λ _ r. (let later = list_any-true p ys r in (later.0, inr later.1, later.2)) ] in
+        | true ↦ λ e _. (y, inl refl, e)
+        | false ↦ λ _ r. (let later = list_any-true p ys r in (later.0, inr later.1, later.2))
+      ] in
       found refl t
 
   pub list_any-member : (p : A → Bool) (x : A) (xs : List A) → IsAmong x xs → p x ≡ true → list_any p xs ≡ true
@@ -85,8 +88,9 @@ module _ {A : Type 0} where
   list_all-true p x (y ∷ ys) t h =
       let All : Bool → Type 0 = λ b. p y ≡ b → (b && list_all p ys) ≡ true → p x ≡ true in
       let all : All (p y) = elim (p y) as All [
-            true ↦ λ e r. elim h [ inl same ↦ ap p same ∙ e | inr later ↦ list_all-true p x ys r later ]
-          | false ↦ λ _ r. absurd (false≢true r) ] in
+        | true ↦ λ e r. elim h [ inl same ↦ ap p same ∙ e | inr later ↦ list_all-true p x ys r later ]
+        | false ↦ λ _ r. absurd (false≢true r)
+      ] in
       all refl t
 
   pub list_all-members : (p : A → Bool) (xs : List A) → ((x : A) → IsAmong x xs → p x ≡ true) → list_all p xs ≡ true

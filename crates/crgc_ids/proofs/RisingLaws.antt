@@ -53,6 +53,6 @@ pub IsRising-range : (a n : ℕ) → IsRising ◌<◌ (range_with_len a n)
 IsRising-range a zero = tt
 IsRising-range a (suc n) = (all_above a (a + 1) n (omega arith), IsRising-range (a + 1) n)
   where
-  all_above : (k a n : ℕ) → k < a → AllByRecursion (λ x. k < x) (range_with_len a n)
-  all_above k a zero h = tt
-  all_above k a (suc n) h = (h, all_above k (a + 1) n (omega arith))
+    all_above : (k a n : ℕ) → k < a → AllByRecursion (λ x. k < x) (range_with_len a n)
+    all_above k a zero h = tt
+    all_above k a (suc n) h = (h, all_above k (a + 1) n (omega arith))
