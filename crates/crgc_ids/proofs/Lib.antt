@@ -1,1 +1,4 @@
+pub mod GreatestLaws
+pub mod LostNodesLaws
+pub mod MembersLaws
 pub mod RisingLaws

@@ -1,7 +1,7 @@
 -- When a list goes on rising as a row is put last.
-use Rattle.std.proofs.Common.{◌≡◌, ◌<◌, ℕ, List, [], ◌∷◌, ◌++◌, sym, ◌∙◌, subst, inl, inr, arith}
+use Rattle.std.proofs.Common.{◌≡◌, ◌<◌, ◌+◌, ℕ, zero, suc, Bool, true, false, cond, List, [], ◌∷◌, ◌++◌, sym, ◌∙◌, subst, inl, inr, arith}
 use Rattle.std.proofs.ByRecursion.{All-push}
-use Rattle.std.specs.List.{AllByRecursion}
+use Rattle.std.specs.List.{AllByRecursion, filter, range_with_len}
 use Rattle.crgc_ids.specs.Actor.{Actor, IsActorBelow, IsPairBelow}
 use Rattle.crgc_ids.specs.Rising.{IsRising}
 
@@ -34,3 +34,25 @@ module _ {X : Type 0} (below : X → X → Type 0) where
       last_of : (P : X → Type 0) (xs : List X) (y : X) → AllByRecursion P (xs ++ y ∷ []) → P y
       last_of P [] y h = h.0
       last_of P (x ∷ xs) y h = last_of P xs y h.1
+
+  all_filter : (P : X → Type 0) (p : X → Bool) (xs : List X) → AllByRecursion P xs → AllByRecursion P (filter p xs)
+  all_filter P p [] h = tt
+  all_filter P p (x ∷ xs) h =
+      let rest = all_filter P p xs h.1 in
+      elim (p x) as (λ b. AllByRecursion P (cond b (x ∷ filter p xs) (filter p xs))) [ true ↦ (h.0, rest) | false ↦ rest ]
+
+  -- a rising list that is filtered rises
+  pub IsRising-filter : (p : X → Bool) (xs : List X) → IsRising below xs → IsRising below (filter p xs)
+  IsRising-filter p [] h = tt
+  IsRising-filter p (x ∷ xs) h =
+      let rest = IsRising-filter p xs h.1 in
+      elim (p x) as (λ b. IsRising below (cond b (x ∷ filter p xs) (filter p xs))) [ true ↦ (all_filter (below x) p xs h.0, rest) | false ↦ rest ]
+
+-- numbers from a on rise
+pub IsRising-range : (a n : ℕ) → IsRising ◌<◌ (range_with_len a n)
+IsRising-range a zero = tt
+IsRising-range a (suc n) = (all_above a (a + 1) n (omega arith), IsRising-range (a + 1) n)
+  where
+    all_above : (k a n : ℕ) → k < a → AllByRecursion (λ x. k < x) (range_with_len a n)
+    all_above k a zero h = tt
+    all_above k a (suc n) h = (h, all_above k (a + 1) n (omega arith))

@@ -1,2 +1,5 @@
 pub mod Actor
+pub mod Greatest
+pub mod LostNodes
+pub mod Members
 pub mod Rising

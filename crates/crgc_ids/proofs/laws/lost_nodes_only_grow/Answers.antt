@@ -1,0 +1,8 @@
+use Rattle.crgc_ids.proofs.LostNodesLaws.{lost_nodes-grow, removed_nodes-grow}
+use Rattle.crgc_ids.proofs.laws.lost_nodes_only_grow.Goals as goal
+
+pub returns-clause-removed : goal.returns-clause-removed
+returns-clause-removed c = removed_nodes-grow
+
+pub returns-clause-lost : goal.returns-clause-lost
+returns-clause-lost c = lost_nodes-grow
