@@ -1,7 +1,7 @@
 -- Folds: what a collector has read of each origin's stream, and the nodes that it finds lost.
-use Rattle.std.specs.Prelude.{ℕ, zero, suc, ◌+◌, ◌==◌, Bool, true, false, ◌&&◌, ◌||◌, not, if◌then◌else◌, nat_lt, List, [], ◌∷◌, ◌++◌, length, take}
-use Rattle.std.specs.List.{list_any, list_all, filter}
-use Rattle.crgc_ids.specs.Greatest.{greatest}
+use Rattle.std.specs.Prelude.{ℕ, zero, suc, ◌+◌, ◌==◌, Bool, true, false, ◌&&◌, ◌||◌, not, if◌then◌else◌, nat_lt, List, [], ◌∷◌, ◌++◌, length, take, flat_map}
+use Rattle.std.specs.List.{list_any}
+use Rattle.crgc_ids.specs.LostNodes.{nodes_below, has_node, lost_nodes}
 use Rattle.history_model.specs.declared.events.Event.{Event}
 use Rattle.history_model.specs.declared.events.Event.TheVariants.{Hand}
 use Rattle.history_model.specs.Cluster.{Cluster}
@@ -36,34 +36,19 @@ cut_at cl m h o = run_of (λ k. was_handed m o k h) (length (stream cl o h))
 abbrev pub folded : Cluster → ℕ → List Event → Fold
 folded cl m h = fold_to cl (cut_at cl m h) h
 
--- the numbers below n, rising
-abbrev pub below : ℕ → List ℕ
-below zero = []
-below (suc n) = below n ++ n ∷ []
+-- the links into d whose finals are among the bulletins
+abbrev pub links_into : ℕ → List Notice → List (ℕ × ℕ)
+links_into d [] = []
+links_into d (final_of s facts ∷ rest) = (s, d) ∷ links_into d rest
+links_into d (_ ∷ rest) = links_into d rest
 
--- the final of the link from s
-abbrev pub is_final_of : ℕ → Notice → Bool
-is_final_of s (final_of x facts) = x == s
-is_final_of s _ = false
+-- the links whose final is folded
+abbrev pub final_links : Cluster → Fold → List (ℕ × ℕ)
+final_links cl f = flat_map (λ d. links_into d (f d)) (nodes_below cl.nodes)
 
--- whether the final of the link from s to d is folded
-abbrev pub has_final : Fold → ℕ → ℕ → Bool
-has_final f s d = list_any (is_final_of s) (f d)
-
--- the nodes that some folded final names as removed
-abbrev pub removed_nodes : Cluster → Fold → List ℕ
-removed_nodes cl f = filter (λ s. list_any (λ d. has_final f s d) (below cl.nodes)) (below cl.nodes)
-
-abbrev pub holds_number : List ℕ → ℕ → Bool
-holds_number xs n = list_any (λ x. x == n) xs
-
--- n may be lost with the nodes xs: its final to every node outside them is folded
-abbrev pub is_cut_off : Cluster → Fold → List ℕ → ℕ → Bool
-is_cut_off cl f xs n = list_all (λ k. holds_number xs k || has_final f n k) (below cl.nodes)
-
--- the lost nodes: the greatest set of removed nodes of which each is cut off from the nodes outside
-abbrev pub lost_nodes : Cluster → Fold → List ℕ
-lost_nodes cl f = greatest (is_cut_off cl f) (removed_nodes cl f)
+-- the nodes that the fold shows as lost
+abbrev pub lost_of : Cluster → Fold → List ℕ
+lost_of cl f = lost_nodes cl.nodes (final_links cl f)
 
 abbrev pub is_lost : Cluster → Fold → ℕ → Bool
-is_lost cl f n = holds_number (lost_nodes cl f) n
+is_lost cl f n = has_node (lost_of cl f) n

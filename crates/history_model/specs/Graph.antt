@@ -4,11 +4,12 @@ use Rattle.std.specs.Prelude.{ℕ, zero, suc, ◌+◌, ◌==◌, Bool, true, fal
 use Rattle.std.specs.List.{list_any, list_all, filter}
 use Rattle.crgc_ids.specs.Actor.{Actor}
 use Rattle.crgc_ids.specs.Greatest.{greatest}
+use Rattle.crgc_ids.specs.LostNodes.{nodes_below}
 use Rattle.history_model.specs.Tally.{tally}
 use Rattle.history_model.specs.Cluster.{Cluster, same_actor}
 use Rattle.history_model.specs.Facts.{Flags, Fact, received, sent_to, created, released, flagged, is_received, is_sent_to, is_created, is_released, names}
 use Rattle.history_model.specs.Streams.{Notice, delta, window_of, final_of}
-use Rattle.history_model.specs.Folds.{Fold, below}
+use Rattle.history_model.specs.Folds.{Fold}
 
 -- the facts of the deltas among the bulletins
 abbrev pub delta_facts : List Notice → List Fact
@@ -32,15 +33,15 @@ notice_facts (final_of s facts ∷ rest) = facts ++ notice_facts rest
 
 -- what all deltas tell
 abbrev pub all_told : Cluster → Fold → List Fact
-all_told cl f = flat_map (λ o. delta_facts (f o)) (below cl.nodes)
+all_told cl f = flat_map (λ o. delta_facts (f o)) (nodes_below cl.nodes)
 
 -- what the deltas of nodes that are not lost tell
 abbrev pub told_facts : Cluster → (ℕ → Bool) → Fold → List Fact
-told_facts cl lost f = flat_map (λ o. if lost o then [] else delta_facts (f o)) (below cl.nodes)
+told_facts cl lost f = flat_map (λ o. if lost o then [] else delta_facts (f o)) (nodes_below cl.nodes)
 
 -- what was admitted from lost nodes
 abbrev pub admitted_facts : Cluster → (ℕ → Bool) → Fold → List Fact
-admitted_facts cl lost f = flat_map (λ o. link_facts lost (f o)) (below cl.nodes)
+admitted_facts cl lost f = flat_map (λ o. link_facts lost (f o)) (nodes_below cl.nodes)
 
 abbrev pub received_count : Cluster → Fold → Actor → ℕ
 received_count cl f a = tally (is_received a) (all_told cl f)
@@ -92,7 +93,7 @@ rising_actors (a ∷ as_) = insert_actor a (rising_actors as_)
 
 -- the actors that some row of the fold names, rising
 abbrev pub known_actors : Cluster → Fold → List Actor
-known_actors cl f = rising_actors (flat_map named_by (flat_map (λ o. notice_facts (f o)) (below cl.nodes)))
+known_actors cl f = rising_actors (flat_map named_by (flat_map (λ o. notice_facts (f o)) (nodes_below cl.nodes)))
 
 -- the last flags of a among the facts
 abbrev pub last_flags : Actor → List Fact → Option Flags

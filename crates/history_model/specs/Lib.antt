@@ -10,4 +10,5 @@ pub mod Graph
 pub mod Sweeps
 pub mod Legal
 pub mod Quiescent
+pub mod Settled
 pub mod Rows

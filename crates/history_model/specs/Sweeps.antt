@@ -34,7 +34,7 @@ stop_of cl lost f a = record {
   received = received_count cl f a;
   told = told_count cl lost f a;
   admitted = admitted_count cl lost f a;
-  owners = filter (λ b. not (lost b.node) && has_edge cl lost f b a) (known_actors cl f)
+  owners = filter (λ b. not (lost b.node) && has_edge cl lost f b a) (known_actors cl f);
 }
 
 -- the stops of a sweep by m, rising

@@ -5,43 +5,95 @@ use crgc_ids::{ActorId, NodeId, RefList};
 #[derive(Debug, Drop)]
 pub enum Event {
     /// The next actor of `node` is born: an idle root that holds itself.
-    Seed { node: NodeId },
+    Seed {
+        node: NodeId,
+    },
     /// Root `owner` gets one more reference to root `target`.
-    Tie { owner: ActorId, target: ActorId },
+    Tie {
+        owner: ActorId,
+        target: ActorId,
+    },
     /// An idle root becomes busy of itself.
-    Wake { actor: ActorId },
+    Wake {
+        actor: ActorId,
+    },
     /// An idle actor becomes busy with its first waiting message, whose references it now holds.
-    Take { actor: ActorId },
+    Take {
+        actor: ActorId,
+    },
     /// The next actor of the parent's node is born: idle, no root; it holds itself, and the parent holds it.
-    Spawn { parent: ActorId },
+    Spawn {
+        parent: ActorId,
+    },
     /// A message with references, each of which the sender holds.
-    Send { from: ActorId, to: ActorId, refs: RefList },
+    Send {
+        from: ActorId,
+        to: ActorId,
+        refs: RefList,
+    },
     /// The actor gives up one reference to `target`.
-    Drop { actor: ActorId, target: ActorId },
+    Drop {
+        actor: ActorId,
+        target: ActorId,
+    },
     /// A root stops being one, for good.
-    Retire { actor: ActorId },
+    Retire {
+        actor: ActorId,
+    },
     /// A busy actor becomes idle.
-    Rest { actor: ActorId },
+    Rest {
+        actor: ActorId,
+    },
     /// The actor's log joins its node's queue as an entry.
-    Flush { actor: ActorId },
+    Flush {
+        actor: ActorId,
+    },
     /// The node's queue becomes one Delta of its stream.
-    Publish { node: NodeId },
+    Publish {
+        node: NodeId,
+    },
     /// What `at` admitted from `from` since the last window joins the stream of `at`.
-    Window { at: NodeId, from: NodeId },
+    Window {
+        at: NodeId,
+        from: NodeId,
+    },
     /// A copy of message `number` of the link is taken from it and handed to ingress.
-    Admit { from: NodeId, at: NodeId, number: u32 },
+    Admit {
+        from: NodeId,
+        at: NodeId,
+        number: u32,
+    },
     /// A copy of message `number` of the link is lost.
-    Lose { from: NodeId, at: NodeId, number: u32 },
+    Lose {
+        from: NodeId,
+        at: NodeId,
+        number: u32,
+    },
     /// Message `number` of the link gets one copy more.
-    Repeat { from: NodeId, at: NodeId, number: u32 },
+    Repeat {
+        from: NodeId,
+        at: NodeId,
+        number: u32,
+    },
     /// The node stops for good.
-    Crash { node: NodeId },
+    Crash {
+        node: NodeId,
+    },
     /// `at` removes the crashed node `gone`: the link from it is closed, and its Final joins the stream of `at`.
-    Remove { at: NodeId, gone: NodeId },
+    Remove {
+        at: NodeId,
+        gone: NodeId,
+    },
     /// Bulletin `number` of `origin` is handed to the collector of `to`.
-    Hand { to: NodeId, origin: NodeId, number: u32 },
+    Hand {
+        to: NodeId,
+        origin: NodeId,
+        number: u32,
+    },
     /// The collector of `node` stops what it finds dead.
-    Sweep { node: NodeId },
+    Sweep {
+        node: NodeId,
+    },
 }
 
 /// The rules of legality, by the word that a report prints for each.
