@@ -1,2 +1,17 @@
 pub mod Basics
 pub mod Sums
+pub mod AccountsBirths
+pub mod AccountsGrowth
+pub mod AccountsNotes
+pub mod AccountsMail
+pub mod AccountsTaken
+pub mod FoldSumsNotes
+pub mod FoldSumsCuts
+pub mod FoldSumsStreams
+pub mod FoldSumsKnown
+pub mod FoldSumsDead
+pub mod FoldSumsCounts
+pub mod StabilityState
+pub mod StabilityMessages
+pub mod StabilityHeld
+pub mod Stability

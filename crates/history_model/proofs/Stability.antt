@@ -1,0 +1,58 @@
+-- A quiet set stays quiet: in every longer legal history nobody outside it can use its members, and none of them acts.
+use Rattle.std.proofs.Common.{◌≡◌, ◌<◌, ◌≤◌, ◌⊎◌, Bool, true, false, List, [], ◌∷◌, ◌++◌, refl, sym, ◌∙◌, ap, subst, inl, inr, arith}
+use Rattle.std.proofs.lemmas.Bool.{false≢true}
+use Rattle.crgc_ids.specs.Actor.{Actor}
+use Rattle.crgc_ids.specs.Members.{IsAmong}
+use Rattle.history_model.specs.declared.events.Event.{Event}
+use Rattle.history_model.specs.declared.events.Event.TheVariants.{Send}
+use Rattle.history_model.specs.Cluster.{Cluster}
+use Rattle.history_model.specs.Messages.{Message}
+use Rattle.history_model.specs.Legal.{IsLegal}
+use Rattle.history_model.specs.Quiescent.{IsLive, IsQuietSet, IsQuiescent}
+use Rattle.history_model.proofs.AccountsBirths.{born-grows}
+use Rattle.history_model.proofs.AccountsGrowth.{up-before}
+use Rattle.history_model.proofs.StabilityHeld.{held-next}
+use Rattle.history_model.proofs.StabilityMessages.{IsSent, live-next}
+use Rattle.history_model.proofs.StabilityState.{idle-next, legal-send, no_root-next}
+
+-- a sender is busy and holds all that it names, so it names no member
+sent-outside : (cl : Cluster) (e : Event) (p : List Event) (q : List Actor) → IsLegal cl (e ∷ p) → IsQuietSet cl p q → (m : Message) → IsSent e m → (a : Actor) → IsAmong a (m.to ∷ m.refs) → ¬ IsAmong a q
+sent-outside cl (Send f t refs) p q legal quiet m new a named member =
+    let rules = legal-send cl f t refs p legal in
+    let holds = rules.holds a (subst (λ (x : Message). IsAmong a (x.to ∷ x.refs)) new named) in
+    let sender = quiet.holders f a member rules.up holds in
+    false≢true (sym (quiet.idle f sender) ∙ rules.busy)
+sent-outside cl _ p q legal quiet m new a named member = absurd new
+
+-- what is live after the next event neither goes to nor carries a member
+live-outside : (cl : Cluster) (e : Event) (p : List Event) (q : List Actor) → IsLegal cl (e ∷ p) → IsQuietSet cl p q → (m : Message) → IsLive (e ∷ p) m → (a : Actor) → IsAmong a (m.to ∷ m.refs) → ¬ IsAmong a q
+live-outside cl e p q legal quiet m live a named member =
+    elim (live-next cl e p legal m live) [
+      | inr new ↦ sent-outside cl e p q legal quiet m new a named member
+      | inl before ↦ elim named [
+        | inl to ↦ quiet.no_mail m before (subst (λ x. IsAmong x q) to member)
+        | inr carried ↦ quiet.not_carried m before a member carried
+      ]
+    ]
+
+-- a quiet set stays quiet after the next legal event
+pub stability-step : (cl : Cluster) (e : Event) (p : List Event) (q : List Actor) → IsLegal cl (e ∷ p) → IsQuietSet cl p q → IsQuietSet cl (e ∷ p) q
+stability-step cl e p q legal quiet = record {
+  born = λ a member. born-grows a (e ∷ []) p (quiet.born a member);
+  idle = idle-next cl e p q legal quiet;
+  no_root = no_root-next cl e p q quiet;
+  no_mail = λ m live member. live-outside cl e p q legal quiet m live m.to (inl refl) member;
+  not_carried = λ m live a member carried. live-outside cl e p q legal quiet m live a (inr carried) member;
+  holders = λ b a member up some.
+      let fewer = held-next cl e p q legal quiet b a member in
+      quiet.holders b a member (up-before b.node (e ∷ []) p up) (omega (arith, some, fewer));
+}
+
+-- and after every legal continuation
+pub stability : (cl : Cluster) (q h : List Event) (xs : List Actor) → IsLegal cl (q ++ h) → IsQuietSet cl h xs → IsQuietSet cl (q ++ h) xs
+stability cl [] h xs legal quiet = quiet
+stability cl (e ∷ q) h xs legal quiet = stability-step cl e (q ++ h) xs legal (stability cl q h xs legal.1 quiet)
+
+-- a quiescent actor stays quiescent
+pub quiescent-stays : (cl : Cluster) (q h : List Event) (a : Actor) → IsLegal cl (q ++ h) → IsQuiescent cl h a → IsQuiescent cl (q ++ h) a
+quiescent-stays cl q h a legal quiescent = (quiescent.0, quiescent.1, stability cl q h quiescent.0 legal quiescent.2)
