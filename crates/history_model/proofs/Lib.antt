@@ -11,6 +11,11 @@ pub mod FoldSumsStreams
 pub mod FoldSumsKnown
 pub mod FoldSumsDead
 pub mod FoldSumsCounts
+pub mod LinksWindows
+pub mod LinksStreams
+pub mod LinksSettled
+pub mod LinksMail
+pub mod LinksLost
 pub mod StabilityState
 pub mod StabilityMessages
 pub mod StabilityHeld

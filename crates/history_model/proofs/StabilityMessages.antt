@@ -1,7 +1,7 @@
 -- What is live after the next event of a legal history was live before, or is the message that the event sends.
-use Rattle.std.proofs.Common.{◌≡◌, ◌<◌, ◌≤◌, ◌+◌, ◌-◌, ◌&&◌, ◌||◌, ◌⊎◌, ◌==◌, ℕ, zero, suc, Bool, true, false, not, List, [], ◌∷◌, ◌++◌, length, drop, refl, sym, ◌∙◌, ap, subst, inl, inr, arith, IsTrue, IsFalse, cond, if◌then◌else◌, nat_lt, filter, slice_get, option_to_list, Option, Some, None, add-one}
-use Rattle.std.proofs.lemmas.Bool.{cond_both, or_parts}
-use Rattle.std.proofs.lemmas.Bool.Decides.{Decides-ltb, nat_tests}
+use Rattle.std.proofs.Common.{◌≡◌, ◌≢◌, ◌<◌, ◌≤◌, ◌+◌, ◌-◌, ◌&&◌, ◌||◌, ◌⊎◌, ◌==◌, ℕ, zero, suc, Bool, true, false, not, List, [], ◌∷◌, ◌++◌, length, drop, refl, sym, ◌∙◌, ap, subst, inl, inr, arith, IsTrue, IsFalse, cond, if◌then◌else◌, nat_lt, filter, slice_get, option_to_list, Option, Some, None, add-one}
+use Rattle.std.proofs.lemmas.Bool.{cond_both, false≢true, or_parts}
+use Rattle.std.proofs.lemmas.Bool.Decides.{Decides-eqb, Decides-ltb}
 use Rattle.std.proofs.lemmas.List.{drop-append-le}
 use Rattle.crgc_ids.specs.Actor.{Actor}
 use Rattle.crgc_ids.specs.Members.{IsAmong}
@@ -67,13 +67,14 @@ admitted-on_link cl s d k p legal m among =
     let Admitted : List Message → Type 0 = λ ms. IsAmong m ms → IsFalse (was_admitted s d k p) × IsAmong m (message_at s d k p) in
     let admitted = cond_both (was_admitted s d k p) [] (message_at s d k p) Admitted (λ _ none. absurd none) (λ fresh there. (fresh, there)) among in
     let ends = (sent-among s d p m (message_at-among s d k p m admitted.1)) in
-    let On : ℕ → ℕ → Type 0 = λ x y. (n : ℕ) × (message_at x y n p ≡ m ∷ []) × IsFalse (is_closed x y p) × IsFalse (was_admitted x y n p) × (0 < copies x y n p) in
+    let On : ℕ → ℕ → Type 0 = λ x y. (n : ℕ) × (message_at x y n p ≡ m ∷ []) × IsFalse (is_closed x y p) × IsFalse (was_admitted x y n p) × (0 < copies x y n p) × (x ≢ y) in
     let here : On s d = (
       k,
       one_at m (slice_get (sent s d p) k) admitted.1,
       not_true (is_closed s d p) kept.1.1.1.1.0,
       admitted.0,
       (Decides-ltb 0 (copies s d k p)).0 kept.1.1.1.1.1.0,
+      λ e. false≢true (sym (not_true (s == d) kept.1.1.0) ∙ (Decides-eqb s d).1 e),
     ) in
     subst (λ x. On x m.to.node) (sym ends.1) (subst (On s) (sym ends.2) here)
 
@@ -109,7 +110,7 @@ on_link-before : (e : Event) (p : List Event) (m : Message) (on : IsOnLink (e �
 on_link-before e p m on there some =
     let s = m.from.node in
     let d = m.to.node in
-    (on.0, there, (or_parts (is_removal s d e) (is_closed s d p) on.2).1, (or_parts (is_admit s d on.0 e) (was_admitted s d on.0 p) on.3).1, some)
+    (on.0, there, (or_parts (is_removal s d e) (is_closed s d p) on.2).1, (or_parts (is_admit s d on.0 e) (was_admitted s d on.0 p) on.3).1, some, on.5)
 
 -- copies that are neither new nor repeated were there before
 copies-before : (e : Event) (p : List Event) (s d k : ℕ) → sent s d (e ∷ p) ≡ sent s d p → tally (is_repeat s d k) (e ∷ p) ≡ tally (is_repeat s d k) p → 0 < copies s d k (e ∷ p) → 0 < copies s d k p
