@@ -25,3 +25,4 @@ pub mod StabilityMessages
 pub mod StabilityHeld
 pub mod Stability
 pub mod CompletenessTold
+pub mod CompletenessMail
