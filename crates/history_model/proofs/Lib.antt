@@ -1,2 +1,7 @@
 pub mod Basics
 pub mod Sums
+pub mod LinksWindows
+pub mod LinksStreams
+pub mod LinksSettled
+pub mod LinksMail
+pub mod LinksLost
