@@ -92,7 +92,8 @@ closed-final cl (_ ∷ p) s d t = closed-final cl p s d t
 
 -- ---- closed links
 
-link-equal : (x y s d : ℕ) → ((x == s) && (y == d)) ≡ true → (x ≡ s) × (y ≡ d)
+-- links that test the same are equal
+pub link-equal : (x y s d : ℕ) → ((x == s) && (y == d)) ≡ true → (x ≡ s) × (y ≡ d)
 link-equal x y s d t = let both = and_true (x == s) (y == d) t in (eqb-equal x s both.0, eqb-equal y d both.1)
 
 -- a link that is open is not one that is closed
