@@ -1,5 +1,5 @@
 -- No node leaves the lost ones; at a quiet point they are exactly the nodes that have crashed.
-use Rattle.std.proofs.Common.{◌≡◌, ◌≤◌, ◌<◌, ℕ, zero, suc, Bool, true, false, not, List, [], ◌∷◌, ◌++◌, length, take, refl, sym, ◌∙◌, ap, subst, inl, inr, arith}
+use Rattle.std.proofs.Common.{◌≡◌, ◌≤◌, ◌<◌, ℕ, zero, suc, true, false, not, List, [], ◌∷◌, ◌++◌, take, sym, ◌∙◌, ap, subst, inl, inr, arith}
 use Rattle.std.proofs.lemmas.Bool.{false_from_ne_true, true≢false}
 use Rattle.std.proofs.lemmas.List.{take_all}
 use Rattle.std.specs.List.{filter}
@@ -9,7 +9,6 @@ use Rattle.crgc_ids.proofs.LostNodesLaws.{lost_nodes-greatest, lost_nodes-grow}
 use Rattle.crgc_ids.proofs.MembersLaws.{IsAmong-filter, IsAmong-from_filter, IsAmong-from_range, IsAmong-range}
 use Rattle.history_model.specs.declared.events.Event.{Event}
 use Rattle.history_model.specs.Cluster.{Cluster}
-use Rattle.history_model.specs.Messages.{is_closed}
 use Rattle.history_model.specs.State.{is_up}
 use Rattle.history_model.specs.Streams.{Notice, delta, window_of, final_of, stream}
 use Rattle.history_model.specs.Folds.{cut_at, links_into, final_links, fold_to, folded, is_lost}
@@ -33,10 +32,10 @@ links_into-more d l (suc c) (suc c') (window_of s facts ∷ xs) more fewer m = l
 pub lost-grows : (cl : Cluster) (q h : List Event) (c c' : ℕ → ℕ) → ((o : ℕ) → c o ≤ c' o) → (n : ℕ) → is_lost cl (fold_to cl c h) n ≡ true → is_lost cl (fold_to cl c' (q ++ h)) n ≡ true
 lost-grows cl q h c c' more n lost =
     let part : IsPart (final_links cl (fold_to cl c h)) (final_links cl (fold_to cl c' (q ++ h))) = λ l m.
-        let final = final_links-from cl (fold_to cl c h) l.0 l.1 m in
-        let grows = stream-grows cl l.1 q h in
-        let later = links_into-more l.1 l (c l.1) (c' l.1) (stream cl l.1 h) grows.0 (more l.1) final.1 in
-        final_links-member cl (fold_to cl c' (q ++ h)) l.0 l.1 final.0 (subst (λ xs. IsAmong l (links_into l.1 (take (c' l.1) xs))) (sym grows.1) later) in
+    let final = final_links-from cl (fold_to cl c h) l.0 l.1 m in
+    let grows = stream-grows cl l.1 q h in
+    let later = links_into-more l.1 l (c l.1) (c' l.1) (stream cl l.1 h) grows.0 (more l.1) final.1 in
+    final_links-member cl (fold_to cl c' (q ++ h)) l.0 l.1 final.0 (subst (λ xs. IsAmong l (links_into l.1 (take (c' l.1) xs))) (sym grows.1) later) in
     among-lost cl (fold_to cl c' (q ++ h)) n
     (lost_nodes-grow cl.nodes (final_links cl (fold_to cl c h)) (final_links cl (fold_to cl c' (q ++ h))) part n (lost-among cl (fold_to cl c h) n lost))
 
@@ -50,17 +49,20 @@ quiet-lost cl m h legal here quiet n below =
     let f = folded cl m h in
     let down : List ℕ = filter (λ k. not (is_up k h)) (nodes_below cl.nodes) in
     let final : (s d : ℕ) → s < cl.nodes → d < cl.nodes → is_up s h ≡ false → is_up d h ≡ true → IsAmong (s, d) (final_links cl f) = λ s d sl dl gone up.
-        let whole : f d ≡ stream cl d h = take_all (cut_at cl m h d) (stream cl d h) (omega (arith, quiet.folded d dl up)) in
-        final_links-member cl f s d dl (subst (λ xs. IsAmong (s, d) (links_into d xs)) (sym whole) (closed-final cl h s d (quiet.removed s d sl dl gone up))) in
+    let whole : f d ≡ stream cl d h = take_all (cut_at cl m h d) (stream cl d h) (omega (arith, quiet.folded d dl up)) in
+    final_links-member cl f s d dl (subst (λ xs. IsAmong (s, d) (links_into d xs)) (sym whole) (closed-final cl h s d (quiet.removed s d sl dl gone up))) in
     let are_lost : IsLostSet cl.nodes (final_links cl f) down = λ s k.
-        let found = IsAmong-from_filter (λ j. not (is_up j h)) s (nodes_below cl.nodes) k in
-        let range = IsAmong-from_range s 0 cl.nodes found.0 in
-        let inside : s < cl.nodes = omega (arith, range) in
-        let gone = not_true (is_up s h) found.1 in
-        (inside, (m, final s m inside here gone quiet.up), λ d dl outside. elim (true_or_false (is_up d h)) [
-          | inl up ↦ final s d inside dl gone up
-          | inr also ↦ absurd (outside (IsAmong-filter (λ j. not (is_up j h)) d (nodes_below cl.nodes) (IsAmong-range d 0 cl.nodes (omega arith) (omega (arith, dl))) (ap not also)))
-        ]) in
+    let found = IsAmong-from_filter (λ j. not (is_up j h)) s (nodes_below cl.nodes) k in
+    let range = IsAmong-from_range s 0 cl.nodes found.0 in
+    let inside : s < cl.nodes = omega (arith, range) in
+    let gone = not_true (is_up s h) found.1 in (
+      inside,
+      (m, final s m inside here gone quiet.up),
+      λ d dl outside. elim (true_or_false (is_up d h)) [
+        | inl up ↦ final s d inside dl gone up
+        | inr also ↦ absurd (outside (IsAmong-filter (λ j. not (is_up j h)) d (nodes_below cl.nodes) (IsAmong-range d 0 cl.nodes (omega arith) (omega (arith, dl))) (ap not also)))
+      ],
+    ) in
     elim (true_or_false (is_up n h)) [
       | inl up ↦ false_from_ne_true (is_lost cl f n) (λ lost. true≢false (sym up ∙ (settled cl h legal (cut_at cl m h)).crashed n lost)) ∙ sym (ap not up)
       | inr gone ↦ among-lost cl f n (lost_nodes-greatest cl.nodes (final_links cl f) down are_lost n

@@ -1,6 +1,6 @@
 -- Where the lost nodes are settled, what a fold admits from them is the mail that they sent.
-use Rattle.std.proofs.Common.{◌≡◌, ◌≢◌, ◌≤◌, ◌<◌, ◌+◌, ◌&&◌, ◌==◌, ℕ, zero, suc, Bool, true, false, cond, if◌then◌else◌, List, [], ◌∷◌, ◌++◌, map, take, drop, slice_get, option_to_list, sum_by, flat_map, refl, sym, ◌∙◌, ap, ap₂, subst, inl, inr, arith, ltb-true, ne_eqb, take-append-drop}
-use Rattle.std.proofs.lemmas.Bool.{and_right, cases_eq, false_from_ne_true, true≢false}
+use Rattle.std.proofs.Common.{◌≡◌, ◌≢◌, ◌<◌, ◌+◌, ◌&&◌, ◌==◌, ℕ, zero, suc, Bool, true, false, cond, if◌then◌else◌, List, [], ◌∷◌, ◌++◌, map, take, drop, slice_get, option_to_list, sum_by, refl, sym, ◌∙◌, ap, ap₂, subst, inl, inr, arith, ltb-true, ne_eqb, take-append-drop}
+use Rattle.std.proofs.lemmas.Bool.{cases_eq}
 use Rattle.std.proofs.lemmas.List.Sums.{sum_by-append}
 use Rattle.std.specs.List.{filter}
 use Rattle.crgc_ids.specs.Actor.{Actor}
@@ -12,13 +12,13 @@ use Rattle.history_model.specs.declared.events.Event.TheVariants.{Publish, Send,
 use Rattle.history_model.specs.Tally.{tally}
 use Rattle.history_model.specs.Cluster.{Cluster, same_actor}
 use Rattle.history_model.specs.Messages.{Message, sent, message_at, was_admitted, admitted_by, is_to, mail}
-use Rattle.history_model.specs.Facts.{Fact, sent_to, created, is_sent_to, is_created, message_facts}
+use Rattle.history_model.specs.Facts.{Fact, created, is_sent_to, is_created, message_facts}
 use Rattle.history_model.specs.Streams.{Notice, delta, window_of, final_of, queue, window, stream}
 use Rattle.history_model.specs.Folds.{fold_to}
 use Rattle.history_model.specs.Graph.{link_facts, admitted_facts, admitted_count, carried_count}
 use Rattle.history_model.specs.Legal.{IsLegal}
 use Rattle.history_model.specs.Settled.{AreSettled, admitted_on}
-use Rattle.history_model.proofs.Basics.{and_true, true_or_false, eqb-refl, eqb-equal, same_actor-equal, tally-append, legal-kept}
+use Rattle.history_model.proofs.Basics.{eqb-refl, eqb-equal, same_actor-equal, tally-append, legal-kept}
 use Rattle.history_model.proofs.LinksSettled.{link-equal}
 use Rattle.history_model.proofs.LinksSums.{sum_by-filter, sum_by-none, sum_by-point, sum_by-same, tally-flat_map, tally-sum_by}
 use Rattle.history_model.proofs.LinksWindows.{link_facts-append, windows-told}
@@ -35,9 +35,9 @@ sent-between (Send f t refs ∷ p) s d m k =
     let last : Message = record { from = f; to = t; refs = refs } in
     (elim ((f.node == s) && (t.node == d)) as (λ v. ((f.node == s) && (t.node == d)) ≡ v → IsAmong m (cond v (sent s d p ++ last ∷ []) (sent s d p)) → IsBetween s d m) [
       | true ↦ λ e j. elim (IsAmong-append_cases m (sent s d p) (last ∷ []) j) [
-          | inl before ↦ sent-between p s d m before
-          | inr now ↦ elim now [ inl same ↦ subst (IsBetween s d) (sym same) (link-equal f.node t.node s d e) | inr none ↦ absurd none ]
-        ]
+        | inl before ↦ sent-between p s d m before
+        | inr now ↦ elim now [ inl same ↦ subst (IsBetween s d) (sym same) (link-equal f.node t.node s d e) | inr none ↦ absurd none ]
+      ]
       | false ↦ λ e j. sent-between p s d m j
     ]) refl k
 sent-between (_ ∷ p) s d m k = sent-between p s d m k
@@ -61,9 +61,9 @@ admitted_on-between (Admit x y k ∷ p) s d m j =
     let more = admitted_by (Admit x y k) p in
     (elim ((x == s) && (y == d)) as (λ v. ((x == s) && (y == d)) ≡ v → IsAmong m (cond v (admitted_on s d p ++ more) (admitted_on s d p)) → IsBetween s d m) [
       | true ↦ λ e i. elim (IsAmong-append_cases m (admitted_on s d p) more i) [
-          | inl before ↦ admitted_on-between p s d m before
-          | inr now ↦ (let ends = admitted-between p x y k m now in let same = link-equal x y s d e in (ends.0 ∙ same.0, ends.1 ∙ same.1))
-        ]
+        | inl before ↦ admitted_on-between p s d m before
+        | inr now ↦ (let ends = admitted-between p x y k m now in let same = link-equal x y s d e in (ends.0 ∙ same.0, ends.1 ∙ same.1))
+      ]
       | false ↦ λ e i. admitted_on-between p s d m i
     ]) refl j
 admitted_on-between (_ ∷ p) s d m j = admitted_on-between p s d m j
@@ -119,10 +119,10 @@ module _ (lost : ℕ → Bool) (b : Actor) (w : Message → ℕ) (none : (m : Me
       sum_by-none (if_lost lost w) (filter (is_to b) (admitted_by (Send f t refs) p)) (λ m j.
       let found = IsAmong-from_filter (is_to b) m (admitted_by (Send f t refs) p) j in
       let same : m.from.node ≡ m.to.node =
-          (elim (f.node == t.node) as (λ v. f.node == t.node ≡ v → IsAmong m (cond v (one ∷ []) []) → m.from.node ≡ m.to.node) [
-            | true ↦ λ e i. elim i [ inl is ↦ ap (λ (x : Message). x.from.node) is ∙ eqb-equal f.node t.node e ∙ sym (ap (λ (x : Message). x.to.node) is) | inr no_more ↦ absurd no_more ]
-            | false ↦ λ _ i. absurd i
-          ]) refl found.0 in
+      (elim (f.node == t.node) as (λ v. f.node == t.node ≡ v → IsAmong m (cond v (one ∷ []) []) → m.from.node ≡ m.to.node) [
+        | true ↦ λ e i. elim i [ inl is ↦ ap (λ (x : Message). x.from.node) is ∙ eqb-equal f.node t.node e ∙ sym (ap (λ (x : Message). x.to.node) is) | inr no_more ↦ absurd no_more ]
+        | false ↦ λ _ i. absurd i
+      ]) refl found.0 in
       let to : m.to.node ≡ b.node = ap (λ (x : Actor). x.node) (same_actor-equal m.to b found.1) in
       ap (λ v. cond v (w m) 0) (ap lost (same ∙ to) ∙ out))
 
@@ -133,13 +133,13 @@ module _ (lost : ℕ → Bool) (b : Actor) (w : Message → ℕ) (none : (m : Me
       let before = admitted_on x b.node p in
       let more = admitted_by (Admit x y k) p in
       let counted : sum_by (if_lost lost w) more ≡ cond (lost x) (sum_by w more) 0 =
-          sum_by-same (if_lost lost w) (λ m. cond (lost x) (w m) 0) more (λ m j. ap (λ s. cond (lost s) (w m) 0) (admitted-between p x y k m j).0) ∙ cond_sum (lost x) w more in
+      sum_by-same (if_lost lost w) (λ m. cond (lost x) (w m) 0) more (λ m j. ap (λ s. cond (lost s) (w m) 0) (admitted-between p x y k m j).0) ∙ cond_sum (lost x) w more in
       let Adds : Bool → Type 0 = λ v. cond (lost x) (sum_by w (cond v (before ++ more) before)) 0 ≡ cond (lost x) (sum_by w before) 0 + sum_by (if_lost lost w) more in
       let adds : (v : Bool) → y == b.node ≡ v → Adds v = λ v. (elim v as (λ v. y == b.node ≡ v → Adds v) [
         | true ↦ λ _. cond_append (lost x) w before more ∙ ap (λ n. cond (lost x) (sum_by w before) 0 + n) (sym counted)
         | false ↦ λ e. (
             let nothing : sum_by (if_lost lost w) more ≡ 0 = sum_by-none (if_lost lost w) more (λ m j.
-                ap (λ n. cond (lost m.from.node) n 0) (none m (not_to b x y m (admitted-between p x y k m j) e)) ∙ cond_same (lost m.from.node) 0) in
+            ap (λ n. cond (lost m.from.node) n 0) (none m (not_to b x y m (admitted-between p x y k m j) e)) ∙ cond_same (lost m.from.node) 0) in
             omega (arith, nothing))
       ]) in
       subst (λ v. Adds (v && (y == b.node))) (sym (eqb-refl x)) (adds (y == b.node) refl)
@@ -160,8 +160,8 @@ module _ (lost : ℕ → Bool) (b : Actor) (w : Message → ℕ) (none : (m : Me
       let both = sum_by-append (if_lost lost w) (mail b p) (filter (is_to b) more) in
       let inside = ltb-true x cl.nodes kept.0 in
       let adds = sum_by-point (from_lost lost w b.node (Admit x y k ∷ p)) (from_lost lost w b.node p) x (sum_by (if_lost lost w) more) 0 cl.nodes (omega arith) (omega (arith, inside))
-          (λ s differ. ap (λ v. cond (lost s) (sum_by w (cond (v && (y == b.node)) (admitted_on s b.node p ++ more) (admitted_on s b.node p))) 0) (ne_eqb x s (λ e. differ (sym e))))
-          (admit_adds x y k p) in
+      (λ s differ. ap (λ v. cond (lost s) (sum_by w (cond (v && (y == b.node)) (admitted_on s b.node p ++ more) (admitted_on s b.node p))) 0) (ne_eqb x s (λ e. differ (sym e))))
+      (admit_adds x y k p) in
       both ∙ ap₂ ◌+◌ before filtered ∙ sym adds
   mail-by_node cl (_ ∷ p) legal out = mail-by_node cl p legal.1 out
 
@@ -214,13 +214,13 @@ module _ (lost : ℕ → Bool) (test : Fact → Bool) where
   one_source : (n k : ℕ) (facts : List Fact) (xs : List Notice) → k < n
       → tally test (link_facts lost xs) ≡ sum_by (λ s. cond (lost s) (tally test (link_facts (λ x. x == s) xs)) 0) (nodes_below n)
       → tally test (cond (lost k) (facts ++ link_facts lost xs) (link_facts lost xs))
-          ≡ sum_by (λ s. cond (lost s) (tally test (cond (k == s) (facts ++ link_facts (λ x. x == s) xs) (link_facts (λ x. x == s) xs))) 0) (nodes_below n)
+      ≡ sum_by (λ s. cond (lost s) (tally test (cond (k == s) (facts ++ link_facts (λ x. x == s) xs) (link_facts (λ x. x == s) xs))) 0) (nodes_below n)
   one_source n k facts xs below before =
       let from : ℕ → List Fact = λ s. link_facts (λ x. x == s) xs in
       let grown : ℕ → ℕ = λ s. cond (lost s) (tally test (cond (k == s) (facts ++ from s) (from s))) 0 in
       let adds = sum_by-point grown (λ s. cond (lost s) (tally test (from s)) 0) k (cond (lost k) (tally test facts) 0) 0 n (omega arith) (omega (arith, below))
-          (λ s differ. ap (λ v. cond (lost s) (tally test (cond v (facts ++ from s) (from s))) 0) (ne_eqb k s (λ e. differ (sym e))))
-          (ap (λ v. cond (lost k) (tally test (cond v (facts ++ from k) (from k))) 0) (eqb-refl k) ∙ put_before_lost (lost k) facts (from k)) in
+      (λ s differ. ap (λ v. cond (lost s) (tally test (cond v (facts ++ from s) (from s))) 0) (ne_eqb k s (λ e. differ (sym e))))
+      (ap (λ v. cond (lost k) (tally test (cond v (facts ++ from k) (from k))) 0) (eqb-refl k) ∙ put_before_lost (lost k) facts (from k)) in
       put_before (lost k) facts (link_facts lost xs) ∙ ap (λ m. m + cond (lost k) (tally test facts) 0) before ∙ sym adds
 
   link_facts-by_node : (n : ℕ) (xs : List Notice) → AreFrom n xs → tally test (link_facts lost xs) ≡ sum_by (λ s. cond (lost s) (tally test (link_facts (λ x. x == s) xs)) 0) (nodes_below n)
@@ -242,9 +242,9 @@ module _ (cl : Cluster) (h : List Event) (c : ℕ → ℕ) (lost : ℕ → Bool)
       let first = link_facts (λ x. x == s) (take (c d) (stream cl d h)) in
       let rest = link_facts (λ x. x == s) (drop (c d) (stream cl d h)) in
       let whole : link_facts (λ x. x == s) (stream cl d h) ≡ first ++ rest =
-          sym (ap (link_facts (λ x. x == s)) (take-append-drop (c d) (stream cl d h))) ∙ link_facts-append (λ x. x == s) (take (c d) (stream cl d h)) (drop (c d) (stream cl d h)) in
+      sym (ap (link_facts (λ x. x == s)) (take-append-drop (c d) (stream cl d h))) ∙ link_facts-append (λ x. x == s) (take (c d) (stream cl d h)) (drop (c d) (stream cl d h)) in
       let told : tally test ((first ++ rest) ++ window s d h) ≡ sum_by (weight test) (admitted_on s d h) =
-          ap (λ xs. tally test (xs ++ window s d h)) (sym whole) ∙ ap (tally test) (windows-told cl h s d) ∙ tally-flat_map test message_facts (admitted_on s d h) in
+      ap (λ xs. tally test (xs ++ window s d h)) (sym whole) ∙ ap (tally test) (windows-told cl h s d) ∙ tally-flat_map test message_facts (admitted_on s d h) in
       let nothing = sum_by-none (weight test) (admitted_on s d h) (λ m j. none m (not_to b s d m (admitted_on-between h s d m j) other)) in
       let split = tally-append test (first ++ rest) (window s d h) in
       let halves = tally-append test first rest in
@@ -256,15 +256,15 @@ module _ (cl : Cluster) (h : List Event) (c : ℕ → ℕ) (lost : ℕ → Bool)
       let folded_of : ℕ → List Notice = λ o. take (c o) (stream cl o h) in
       let from : ℕ → ℕ → ℕ = λ o s. cond (lost s) (tally test (link_facts (λ x. x == s) (folded_of o))) 0 in
       let by_node : (o : ℕ) → tally test (link_facts lost (folded_of o)) ≡ sum_by (from o) (nodes_below cl.nodes) = λ o.
-          link_facts-by_node lost test cl.nodes (folded_of o) (AreFrom-take cl.nodes (c o) (stream cl o h) (stream-from cl h legal o)) in
+      link_facts-by_node lost test cl.nodes (folded_of o) (AreFrom-take cl.nodes (c o) (stream cl o h) (stream-from cl h legal o)) in
       let others : (o : ℕ) → o ≢ b.node → tally test (link_facts lost (folded_of o)) ≡ 0 = λ o differ. by_node o ∙ sum_by-none (from o) (nodes_below cl.nodes) (λ s _.
-          ap (λ n. cond (lost s) n 0) (other_stream s o (ne_eqb o b.node differ)) ∙ cond_same (lost s) 0) in
+      ap (λ n. cond (lost s) n 0) (other_stream s o (ne_eqb o b.node differ)) ∙ cond_same (lost s) 0) in
       let own : tally test (link_facts lost (folded_of b.node)) ≡ sum_by (from_lost lost (weight test) b.node h) (nodes_below cl.nodes) =
-          by_node b.node ∙ sum_by-same (from b.node) (from_lost lost (weight test) b.node h) (nodes_below cl.nodes) (λ s _.
-            (elim (lost s) as (λ v. lost s ≡ v → cond v (tally test (link_facts (λ x. x == s) (folded_of b.node))) 0 ≡ cond v (sum_by (weight test) (admitted_on s b.node h)) 0) [
-              | true ↦ λ e. ap (tally test) (settled.told s b.node node e out) ∙ tally-flat_map test message_facts (admitted_on s b.node h)
-              | false ↦ λ _. refl
-            ]) refl) in
+      by_node b.node ∙ sum_by-same (from b.node) (from_lost lost (weight test) b.node h) (nodes_below cl.nodes) (λ s _.
+      (elim (lost s) as (λ v. lost s ≡ v → cond v (tally test (link_facts (λ x. x == s) (folded_of b.node))) 0 ≡ cond v (sum_by (weight test) (admitted_on s b.node h)) 0) [
+        | true ↦ λ e. ap (tally test) (settled.told s b.node node e out) ∙ tally-flat_map test message_facts (admitted_on s b.node h)
+        | false ↦ λ _. refl
+      ]) refl) in
       let point = sum_by-point (λ o. tally test (link_facts lost (folded_of o))) (λ _. 0) b.node (tally test (link_facts lost (folded_of b.node))) 0 cl.nodes (omega arith) (omega (arith, node)) others (omega arith) in
       let nothing = sum_by-none (λ (_ : ℕ). 0) (nodes_below cl.nodes) (λ _ _. refl) in
       tally-flat_map test (λ o. link_facts lost (folded_of o)) (nodes_below cl.nodes) ∙ point ∙ omega (arith, nothing) ∙ own
@@ -308,7 +308,7 @@ pub admitted-mail : (cl : Cluster) (h : List Event) (c : ℕ → ℕ) (lost : �
 admitted-mail cl h c lost legal settled a node out =
     let counts = admitted_facts-mail cl h c lost a (is_sent_to a) (λ m e. sent_weight a m ∙ ap (λ v. cond v 1 0) e) legal settled node out in
     counts ∙ sum_by-same (if_lost lost (weight (is_sent_to a))) (λ m. cond (lost m.from.node) 1 0) (mail a h)
-      (λ m j. ap (λ n. cond (lost m.from.node) n 0) (sent_weight a m ∙ ap (λ v. cond v 1 0) (mail-to a h m j)))
+    (λ m j. ap (λ n. cond (lost m.from.node) n 0) (sent_weight a m ∙ ap (λ v. cond v 1 0) (mail-to a h m j)))
     ∙ sym (tally-sum_by (λ m. lost m.from.node) (mail a h))
 
 -- the references to a that a fold admits for b are those that b's mail from lost nodes carries
@@ -317,4 +317,4 @@ pub carried-mail : (cl : Cluster) (h : List Event) (c : ℕ → ℕ) (lost : ℕ
 carried-mail cl h c lost legal settled b a node out =
     let counts = admitted_facts-mail cl h c lost b (is_created b a) (λ m e. created_weight b a m.to m.refs false e) legal settled node out in
     counts ∙ sum_by-same (if_lost lost (weight (is_created b a))) (λ m. cond (lost m.from.node) (tally (same_actor a) m.refs) 0) (mail b h)
-      (λ m j. ap (λ n. cond (lost m.from.node) n 0) (created_weight b a m.to m.refs true (mail-to b h m j)))
+    (λ m j. ap (λ n. cond (lost m.from.node) n 0) (created_weight b a m.to m.refs true (mail-to b h m j)))

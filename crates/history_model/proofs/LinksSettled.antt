@@ -1,28 +1,26 @@
 -- The nodes that a fold shows as lost are settled: they have crashed, nothing is under way from them to a node outside,
 -- and all that such a node admitted from them is folded.
-use Rattle.std.proofs.Common.{◌≡◌, ◌≤◌, ◌<◌, ◌+◌, ◌-◌, ◌&&◌, ◌||◌, ◌==◌, ℕ, zero, suc, Bool, true, false, not, cond, List, [], ◌∷◌, ◌++◌, length, take, slice_get, option_to_list, flat_map, refl, sym, ◌∙◌, ap, ap₂, subst, inl, inr, arith, append-nil, ltb-true, take-append-drop, length-append, drop}
+use Rattle.std.proofs.Common.{◌≡◌, ◌<◌, ◌+◌, ◌&&◌, ◌||◌, ◌==◌, ℕ, Bool, true, false, not, cond, List, [], ◌∷◌, ◌++◌, length, take, slice_get, option_to_list, flat_map, refl, sym, ◌∙◌, ap, ap₂, subst, inl, inr, arith, append-nil, ltb-true, take-append-drop, length-append, drop}
 use Rattle.std.proofs.lemmas.Bool.{cases_lt, cond-false, or_left, or_right, false_from_ne_true, and_from, true≢false}
 use Rattle.std.proofs.lemmas.List.{take-append-le, take_all}
 use Rattle.std.specs.List.{list_any}
 use Rattle.crgc_ids.specs.Members.{IsAmong}
-use Rattle.crgc_ids.specs.LostNodes.{nodes_below, lost_nodes}
+use Rattle.crgc_ids.specs.LostNodes.{nodes_below}
 use Rattle.crgc_ids.proofs.LostNodesLaws.{lost_nodes-lost}
 use Rattle.crgc_ids.proofs.MembersLaws.{IsAmong-append_cases, IsAmong-append_left, IsAmong-append_right, IsAmong-range, IsAmong-from_range, list_any-member, list_any-true}
 use Rattle.history_model.specs.declared.events.Event.{Event}
 use Rattle.history_model.specs.declared.events.Event.TheVariants.{Seed, Spawn, Publish, Send, Window, Admit, Crash, Remove}
-use Rattle.history_model.specs.Tally.{tally}
-use Rattle.history_model.specs.Cluster.{Cluster, is_birth_on, births, is_born}
+use Rattle.history_model.specs.Cluster.{Cluster, births}
 use Rattle.history_model.specs.Messages.{Message, admitted_by, sent, is_closed}
 use Rattle.history_model.specs.Facts.{Fact, message_facts}
 use Rattle.history_model.specs.State.{is_crash, is_up}
 use Rattle.history_model.specs.Streams.{Notice, delta, window_of, final_of, queue, window, stream}
 use Rattle.history_model.specs.Folds.{Fold, fold_to, links_into, final_links, lost_of, is_lost}
 use Rattle.history_model.specs.Graph.{link_facts}
-use Rattle.history_model.specs.Legal.{checks, IsLegal}
-use Rattle.history_model.specs.Quiescent.{IsOnLink}
+use Rattle.history_model.specs.Legal.{IsLegal}
 use Rattle.history_model.specs.Settled.{AreSettled, admitted_on}
-use Rattle.history_model.proofs.Basics.{and_true, or_true, not_true, true_or_false, eqb-refl, eqb-equal, AreKept, legal-kept}
-use Rattle.history_model.proofs.LinksWindows.{link_facts-append, link_facts-skip, windows-told}
+use Rattle.history_model.proofs.Basics.{and_true, or_true, not_true, true_or_false, eqb-refl, eqb-equal, legal-kept}
+use Rattle.history_model.proofs.LinksWindows.{link_facts-append, windows-told}
 
 -- ---- finals and removals
 
@@ -56,12 +54,12 @@ final-closed cl (Remove y x ∷ p) s d m =
     let final : Notice = final_of x (window x y p) in
     (elim (y == d) as (λ v. IsAmong (s, d) (links_into d (cond v (stream cl d p ++ final ∷ []) (stream cl d p))) → (((x == s) && v) || is_closed s d p) ≡ true) [
       | true ↦ λ k. elim (IsAmong-append_cases (s, d) (links_into d (stream cl d p)) ((x, d) ∷ []) (subst (IsAmong (s, d)) (links_into-append d (stream cl d p) (final ∷ [])) k)) [
-          | inl before ↦ or_right ((x == s) && true) (is_closed s d p) (earlier before)
-          | inr last ↦ elim last [
-              | inl e ↦ or_left ((x == s) && true) (is_closed s d p) (and_from (x == s) true (subst (λ k. x == k ≡ true) (sym (ap (λ (l : ℕ × ℕ). l.0) e)) (eqb-refl x)) refl)
-              | inr none ↦ absurd none
-            ]
+        | inl before ↦ or_right ((x == s) && true) (is_closed s d p) (earlier before)
+        | inr last ↦ elim last [
+          | inl e ↦ or_left ((x == s) && true) (is_closed s d p) (and_from (x == s) true (subst (λ k. x == k ≡ true) (sym (ap (λ (l : ℕ × ℕ). l.0) e)) (eqb-refl x)) refl)
+          | inr none ↦ absurd none
         ]
+      ]
       | false ↦ λ k. or_right ((x == s) && false) (is_closed s d p) (earlier k)
     ]) m
 final-closed cl (_ ∷ p) s d m = final-closed cl p s d m
@@ -80,13 +78,13 @@ closed-final cl (Remove y x ∷ p) s d t =
     let pair : ℕ → ℕ × ℕ = λ k. (k, d) in
     (elim (y == d) as (λ v. (((x == s) && v) || is_closed s d p) ≡ true → IsAmong (s, d) (links_into d (cond v (stream cl d p ++ final ∷ []) (stream cl d p)))) [
       | true ↦ λ u. subst (IsAmong (s, d)) (sym joined) (elim (or_true ((x == s) && true) (is_closed s d p) u) [
-          | inl now ↦ IsAmong-append_right (s, d) (links_into d (stream cl d p)) ((x, d) ∷ []) (inl (ap pair (sym (eqb-equal x s (and_true (x == s) true now).0))))
-          | inr before ↦ IsAmong-append_left (s, d) (links_into d (stream cl d p)) ((x, d) ∷ []) (earlier before)
-        ])
+        | inl now ↦ IsAmong-append_right (s, d) (links_into d (stream cl d p)) ((x, d) ∷ []) (inl (ap pair (sym (eqb-equal x s (and_true (x == s) true now).0))))
+        | inr before ↦ IsAmong-append_left (s, d) (links_into d (stream cl d p)) ((x, d) ∷ []) (earlier before)
+      ])
       | false ↦ λ u. elim (or_true ((x == s) && false) (is_closed s d p) u) [
-          | inl now ↦ absurd (true≢false (sym (and_true (x == s) false now).1))
-          | inr before ↦ earlier before
-        ]
+        | inl now ↦ absurd (true≢false (sym (and_true (x == s) false now).1))
+        | inr before ↦ earlier before
+      ]
     ]) t
 closed-final cl (_ ∷ p) s d t = closed-final cl p s d t
 
