@@ -26,3 +26,4 @@ pub mod StabilityHeld
 pub mod Stability
 pub mod CompletenessTold
 pub mod CompletenessMail
+pub mod Completeness

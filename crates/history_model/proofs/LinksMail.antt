@@ -1,12 +1,12 @@
 -- Where the lost nodes are settled, what a fold admits from them is the mail that they sent.
-use Rattle.std.proofs.Common.{◌≡◌, ◌≢◌, ◌<◌, ◌+◌, ◌&&◌, ◌==◌, ℕ, zero, suc, Bool, true, false, cond, if◌then◌else◌, List, [], ◌∷◌, ◌++◌, map, take, drop, slice_get, option_to_list, sum_by, refl, sym, ◌∙◌, ap, ap₂, subst, inl, inr, arith, ltb-true, ne_eqb, take-append-drop}
+use Rattle.std.proofs.Common.{◌≡◌, ◌≢◌, ◌≤◌, ◌<◌, ◌+◌, ◌&&◌, ◌==◌, ℕ, zero, suc, Bool, true, false, cond, if◌then◌else◌, List, [], ◌∷◌, ◌++◌, map, take, drop, slice_get, option_to_list, sum_by, refl, sym, ◌∙◌, ap, ap₂, subst, inl, inr, arith, ltb-true, ne_eqb, take-append-drop}
 use Rattle.std.proofs.lemmas.Bool.{cases_eq}
 use Rattle.std.proofs.lemmas.List.Sums.{sum_by-append}
 use Rattle.std.specs.List.{filter}
 use Rattle.crgc_ids.specs.Actor.{Actor}
 use Rattle.crgc_ids.specs.LostNodes.{nodes_below}
 use Rattle.crgc_ids.specs.Members.{IsAmong}
-use Rattle.crgc_ids.proofs.MembersLaws.{IsAmong-append_cases, IsAmong-from_filter}
+use Rattle.crgc_ids.proofs.MembersLaws.{IsAmong-append_cases, IsAmong-from_filter, IsAmong-from_range}
 use Rattle.history_model.specs.declared.events.Event.{Event}
 use Rattle.history_model.specs.declared.events.Event.TheVariants.{Publish, Send, Window, Admit, Remove}
 use Rattle.history_model.specs.Tally.{tally}
@@ -250,22 +250,37 @@ module _ (cl : Cluster) (h : List Event) (c : ℕ → ℕ) (lost : ℕ → Bool)
       let halves = tally-append test first rest in
       omega (arith, told, nothing, split, halves)
 
+  -- what the bulletins of node o tell, and nothing where o is not the node of b
+  notices-by_node : IsLegal cl h → (o : ℕ) → tally test (link_facts lost (take (c o) (stream cl o h))) ≡ sum_by (λ s. cond (lost s) (tally test (link_facts (λ x. x == s) (take (c o) (stream cl o h)))) 0) (nodes_below cl.nodes)
+  notices-by_node legal o =
+      link_facts-by_node lost test cl.nodes (take (c o) (stream cl o h)) (AreFrom-take cl.nodes (c o) (stream cl o h) (stream-from cl h legal o))
+
+  other_notices : IsLegal cl h → (o : ℕ) → o ≢ b.node → tally test (link_facts lost (take (c o) (stream cl o h))) ≡ 0
+  other_notices legal o differ =
+      notices-by_node legal o
+      ∙ sum_by-none (λ s. cond (lost s) (tally test (link_facts (λ x. x == s) (take (c o) (stream cl o h)))) 0) (nodes_below cl.nodes)
+        (λ s _. ap (λ n. cond (lost s) n 0) (other_stream s o (ne_eqb o b.node differ)) ∙ cond_same (lost s) 0)
+
+  -- an actor of no node of the cluster is told of by none
+  admitted_facts-outside : IsLegal cl h → cl.nodes ≤ b.node → tally test (admitted_facts cl lost (fold_to cl c h)) ≡ 0
+  admitted_facts-outside legal outside =
+      tally-flat_map test (λ o. link_facts lost (take (c o) (stream cl o h))) (nodes_below cl.nodes)
+      ∙ sum_by-none (λ o. tally test (link_facts lost (take (c o) (stream cl o h)))) (nodes_below cl.nodes)
+        (λ o among. other_notices legal o (λ e. (let below = IsAmong-from_range o 0 cl.nodes among in absurd (omega (arith, below.1, e, outside)))))
+
   admitted_facts-mail : IsLegal cl h → AreSettled cl c lost h → b.node < cl.nodes → lost b.node ≡ false
       → tally test (admitted_facts cl lost (fold_to cl c h)) ≡ sum_by (if_lost lost (weight test)) (mail b h)
   admitted_facts-mail legal settled node out =
       let folded_of : ℕ → List Notice = λ o. take (c o) (stream cl o h) in
       let from : ℕ → ℕ → ℕ = λ o s. cond (lost s) (tally test (link_facts (λ x. x == s) (folded_of o))) 0 in
-      let by_node : (o : ℕ) → tally test (link_facts lost (folded_of o)) ≡ sum_by (from o) (nodes_below cl.nodes) = λ o.
-      link_facts-by_node lost test cl.nodes (folded_of o) (AreFrom-take cl.nodes (c o) (stream cl o h) (stream-from cl h legal o)) in
-      let others : (o : ℕ) → o ≢ b.node → tally test (link_facts lost (folded_of o)) ≡ 0 = λ o differ. by_node o ∙ sum_by-none (from o) (nodes_below cl.nodes) (λ s _.
-      ap (λ n. cond (lost s) n 0) (other_stream s o (ne_eqb o b.node differ)) ∙ cond_same (lost s) 0) in
+      let by_node = notices-by_node legal in
       let own : tally test (link_facts lost (folded_of b.node)) ≡ sum_by (from_lost lost (weight test) b.node h) (nodes_below cl.nodes) =
-      by_node b.node ∙ sum_by-same (from b.node) (from_lost lost (weight test) b.node h) (nodes_below cl.nodes) (λ s _.
+      by_node b.node ∙ sum_by-same (λ s. cond (lost s) (tally test (link_facts (λ x. x == s) (folded_of b.node))) 0) (from_lost lost (weight test) b.node h) (nodes_below cl.nodes) (λ s _.
       (elim (lost s) as (λ v. lost s ≡ v → cond v (tally test (link_facts (λ x. x == s) (folded_of b.node))) 0 ≡ cond v (sum_by (weight test) (admitted_on s b.node h)) 0) [
         | true ↦ λ e. ap (tally test) (settled.told s b.node node e out) ∙ tally-flat_map test message_facts (admitted_on s b.node h)
         | false ↦ λ _. refl
       ]) refl) in
-      let point = sum_by-point (λ o. tally test (link_facts lost (folded_of o))) (λ _. 0) b.node (tally test (link_facts lost (folded_of b.node))) 0 cl.nodes (omega arith) (omega (arith, node)) others (omega arith) in
+      let point = sum_by-point (λ o. tally test (link_facts lost (folded_of o))) (λ _. 0) b.node (tally test (link_facts lost (folded_of b.node))) 0 cl.nodes (omega arith) (omega (arith, node)) (other_notices legal) (omega arith) in
       let nothing = sum_by-none (λ (_ : ℕ). 0) (nodes_below cl.nodes) (λ _ _. refl) in
       tally-flat_map test (λ o. link_facts lost (folded_of o)) (nodes_below cl.nodes) ∙ point ∙ omega (arith, nothing) ∙ own
       ∙ sym (mail-by_node lost b (weight test) none cl h legal out)
@@ -318,3 +333,8 @@ carried-mail cl h c lost legal settled b a node out =
     let counts = admitted_facts-mail cl h c lost b (is_created b a) (λ m e. created_weight b a m.to m.refs false e) legal settled node out in
     counts ∙ sum_by-same (if_lost lost (weight (is_created b a))) (λ m. cond (lost m.from.node) (tally (same_actor a) m.refs) 0) (mail b h)
     (λ m j. ap (λ n. cond (lost m.from.node) n 0) (created_weight b a m.to m.refs true (mail-to b h m j)))
+
+-- none are admitted for an actor of no node of the cluster
+pub carried-outside : (cl : Cluster) (h : List Event) (c : ℕ → ℕ) (lost : ℕ → Bool) → IsLegal cl h → (b a : Actor) → cl.nodes ≤ b.node → carried_count cl lost (fold_to cl c h) b a ≡ 0
+carried-outside cl h c lost legal b a =
+    admitted_facts-outside cl h c lost b (is_created b a) (λ m e. created_weight b a m.to m.refs false e) legal
