@@ -1,2 +1,7 @@
 pub mod Basics
 pub mod Sums
+pub mod AccountsBirths
+pub mod AccountsGrowth
+pub mod AccountsNotes
+pub mod AccountsMail
+pub mod AccountsTaken
