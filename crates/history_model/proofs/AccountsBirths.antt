@@ -120,6 +120,18 @@ kept-born : (as_ : List Actor) (p : List Event) (cs : List Check) → AreKept (b
 kept-born [] p cs kept = each-none (λ a. IsTrue (is_born a p))
 kept-born (a ∷ as_) p cs kept = each-more (λ b. IsTrue (is_born b p)) a as_ kept.0 (kept-born as_ p cs kept.1)
 
+-- what is true of each note of a spawn
+pub each-notes_of_spawn : (cl : Cluster) (a : Actor) (p : List Event) (P : Note → Type 0) → P (note_by (newborn a.node p) (created (newborn a.node p) (newborn a.node p))) → P (note_by (newborn a.node p) (created a (newborn a.node p))) → P (note_by a (created (newborn a.node p) a)) → Each P (notes cl (Spawn a) p)
+each-notes_of_spawn cl a p P itself parent supervisor =
+    let child = newborn a.node p in
+    let last : List Note = note_by a (created child a) ∷ [] in
+    let supervised : Each P (cond (cl.version == 2) last []) = elim (cl.version == 2) as (λ v. Each P (cond v last [])) [
+      | true ↦ each-one P (note_by a (created child a)) supervisor
+      | false ↦ each-none P
+    ] in
+    each-more P (note_by child (created child child)) (note_by child (created a child) ∷ cond (cl.version == 2) last []) itself
+      (each-more P (note_by child (created a child)) (cond (cl.version == 2) last []) parent supervised)
+
 -- who notes is born with the event, and so is whoever its fact names
 pub notes-born : (cl : Cluster) (e : Event) (p : List Event) → IsLegal cl (e ∷ p) → Each (AreBorn (e ∷ p)) (notes cl e p)
 notes-born cl (Seed n) p legal =
@@ -141,15 +153,9 @@ notes-born cl (Spawn a) p legal =
     let child = newborn a.node p in
     let born : IsTrue (is_born child h) = newborn-born a.node (Spawn a) p (eqb-refl a.node) in
     let parent : IsTrue (is_born a h) = born-grows a (Spawn a ∷ []) p kept.0 in
-    let last : List Note = note_by a (created child a) ∷ [] in
-    let supervised : Each (AreBorn h) (cond (cl.version == 2) last []) = elim (cl.version == 2) as (λ v. Each (AreBorn h) (cond v last [])) [
-      | true ↦ each-one (AreBorn h) (note_by a (created child a)) (created-born h a child a parent born parent)
-      | false ↦ each-none (AreBorn h)
-    ] in
-    each-more (AreBorn h) (note_by child (created child child)) (note_by child (created a child) ∷ cond (cl.version == 2) last [])
-      (created-born h child child child born born born)
-      (each-more (AreBorn h) (note_by child (created a child)) (cond (cl.version == 2) last [])
-        (created-born h child a child born parent born) supervised)
+    each-notes_of_spawn cl a p (AreBorn h)
+      (created-born h child child child born born born) (created-born h child a child born parent born)
+      (created-born h a child a parent born parent)
 notes-born cl (Send f t refs) p legal =
     let h = Send f t refs ∷ p in
     let kept = legal-kept cl (Send f t refs) p legal in
