@@ -4,5 +4,6 @@ pub mod AccountsBirths
 pub mod AccountsGrowth
 pub mod AccountsNotes
 pub mod AccountsCopies
+pub mod AccountsOpen
 pub mod AccountsMail
 pub mod AccountsTaken
