@@ -6,11 +6,12 @@ use Rattle.std.specs.List.{filter, list_any}
 use Rattle.crgc_ids.specs.Greatest.{IsMonotone, greatest}
 use Rattle.crgc_ids.specs.LostNodes.{IsLostSet, has_link, is_cut_off, lost_nodes, removed_nodes}
 use Rattle.crgc_ids.specs.Members.{IsAmong, IsPart}
+use Rattle.crgc_ids.specs.NodeFlags.{same_node}
 use Rattle.crgc_ids.specs.Nodes.{has_node, nodes_below}
 use Rattle.crgc_ids.specs.Rising.{IsRising}
 use Rattle.crgc_ids.proofs.GreatestLaws.{greatest-contains, greatest-filters, greatest-fit, greatest-part}
 use Rattle.crgc_ids.proofs.MembersLaws.{IsAmong-append_cases, IsAmong-append_left, IsAmong-append_right, IsAmong-filter, IsAmong-from_filter, IsAmong-from_range, IsAmong-range, list_all-members, list_all-true, list_any-member, list_any-true}
-use Rattle.crgc_ids.proofs.NodesLaws.{has_node-from_true, has_node-member, same_node}
+use Rattle.crgc_ids.proofs.NodesLaws.{has_node-from_true, has_node-member}
 use Rattle.crgc_ids.proofs.RisingLaws.{IsRising-filter, IsRising-range}
 
 -- what one of two tests says, and what says it

@@ -1,15 +1,16 @@
 -- Rising lists of nodes, and the flags that stand for them.
-use Rattle.std.proofs.Common.{◌≡◌, ◌≤◌, ◌<◌, ◌+◌, ◌↔◌, ◌||◌, ℕ, zero, suc, Bool, true, false, cond, List, [], ◌∷◌, length, map, set, get_or, eqb, ltb, refl, sym, ◌∙◌, ap, subst, inl, inr, arith}
+use Rattle.std.proofs.Common.{◌≡◌, ◌≤◌, ◌<◌, ◌+◌, ◌↔◌, ℕ, zero, suc, Bool, true, false, cond, List, [], ◌∷◌, length, set, get_or, eqb, ltb, refl, sym, ◌∙◌, ap, subst, arith}
 use Rattle.std.proofs.lemmas.Bool.{false≢true}
-use Rattle.std.proofs.lemmas.Bool.Decides.{Decides-eqb, nat_tests}
-use Rattle.std.specs.List.{AllByRecursion, range_with_len}
+use Rattle.std.proofs.lemmas.Bool.Decides.{Decides-eqb, Decides-like, nat_tests, same_from_decides}
+use Rattle.std.proofs.lemmas.Slice.Eq.{slice_eq-Decides}
+use Rattle.std.specs.Bool.{Decides, beq}
+use Rattle.std.specs.Cmp.Lexicographic.{pointwise}
+use Rattle.std.specs.List.{AllByRecursion}
 use Rattle.crgc_ids.specs.Members.{IsAmong}
-use Rattle.crgc_ids.specs.Nodes.{flagged_from, flags_below, has_node, nodes_below, with_node}
+use Rattle.crgc_ids.specs.NodeFlags.{flagged-above, flagged_from, flags-flagged, flags_below, has_node-flagged, other', same_node}
+use Rattle.crgc_ids.specs.Nodes.{has_node, with_node}
 use Rattle.crgc_ids.specs.Rising.{IsRising}
 use Rattle.crgc_ids.proofs.MembersLaws.{list_any-member, list_any-true}
-
-pub same_node : (k : ℕ) → eqb k k ≡ true
-same_node k = (Decides-eqb k k).1 refl
 
 -- the test `has_node` tells the members
 pub has_node-from_true : (xs : List ℕ) (k : ℕ) → has_node xs k ≡ true → IsAmong k xs
@@ -20,24 +21,11 @@ has_node-from_true xs k t =
 pub has_node-member : (xs : List ℕ) (k : ℕ) → IsAmong k xs → has_node xs k ≡ true
 has_node-member xs k h = list_any-member (λ x. eqb k x) k xs h (same_node k)
 
-other : (k x : ℕ) → k < x → eqb k x ≡ false
-other k x l = grind (arith, nat_tests)
-
-other' : (k x : ℕ) → x < k → eqb k x ≡ false
-other' k x l = grind (arith, nat_tests)
-
 not_below : (k x : ℕ) → x ≤ k → ltb k x ≡ false
 not_below k x l = grind (arith, nat_tests)
 
 is_below : (k x : ℕ) → k < x → ltb k x ≡ true
 is_below k x l = grind (arith, nat_tests)
-
--- the flagged nodes from k on are k or more
-flagged-above : (l k : ℕ) (bs : List Bool) → l < k → AllByRecursion (λ x. l < x) (flagged_from k bs)
-flagged-above l k [] h = tt
-flagged-above l k (b ∷ bs) h =
-    let later = flagged-above l (k + 1) bs (omega arith) in
-    elim b as (λ v. AllByRecursion (λ x. l < x) (cond v (k ∷ flagged_from (k + 1) bs) (flagged_from (k + 1) bs))) [ true ↦ (h, later) | false ↦ later ]
 
 pub flagged-below : (n k : ℕ) (bs : List Bool) → k + length bs ≤ n → AllByRecursion (λ x. x < n) (flagged_from k bs)
 flagged-below n k [] h = tt
@@ -56,8 +44,8 @@ with_node-first : (k : ℕ) (xs : List ℕ) → AllByRecursion (λ x. k < x) xs 
 with_node-first k [] h = refl
 with_node-first k (x ∷ xs) h = rw (is_below k x h.0) refl
 
--- to set a flag is to put its node in
-pub flagged-set : (k i : ℕ) (bs : List Bool) → i < length bs → flagged_from k (set bs i true) ≡ with_node (k + i) (flagged_from k bs)
+-- to set the flag of a node is to put the node in
+flagged-set : (k i : ℕ) (bs : List Bool) → i < length bs → flagged_from k (set bs i true) ≡ with_node (k + i) (flagged_from k bs)
 flagged-set k i [] h = absurd (omega arith)
 flagged-set k zero (b ∷ bs) h =
     let ms = flagged_from (k + 1) bs in
@@ -71,27 +59,33 @@ flagged-set k (suc i) (b ∷ bs) h =
     let later : flagged_from (k + 1) (set bs i true) ≡ with_node (k + suc i) ms = rw there (flagged-set (k + 1) i bs (omega arith)) in
     let beyond : with_node (k + suc i) (k ∷ ms) ≡ k ∷ with_node (k + suc i) ms = rw (not_below (k + suc i) k (omega arith), other' (k + suc i) k (omega arith)) refl in
     elim b as (λ v. cond v (k ∷ flagged_from (k + 1) (set bs i true)) (flagged_from (k + 1) (set bs i true)) ≡ with_node (k + suc i) (cond v (k ∷ ms) ms)) [
-      true ↦ ap (λ xs. k ∷ xs) later ∙ sym beyond
-    | false ↦ later ]
+      | true ↦ ap (λ xs. k ∷ xs) later ∙ sym beyond
+      | false ↦ later
+    ]
 
--- no node below all members is a member
-has_node-below : (k : ℕ) (xs : List ℕ) → AllByRecursion (λ x. k < x) xs → has_node xs k ≡ false
-has_node-below k [] h = refl
-has_node-below k (x ∷ xs) h = rw (other k x h.0) (has_node-below k xs h.1)
+pub flagged-with : (i : ℕ) (bs : List Bool) → i < length bs → flagged_from 0 (set bs i true) ≡ with_node i (flagged_from 0 bs)
+flagged-with i bs h =
+    let here : 0 + i ≡ i = omega arith in
+    rw here at (flagged-set 0 i bs h)
 
--- the flag says whether its node is a member
-pub has_node-flagged : (k i : ℕ) (bs : List Bool) → i < length bs → has_node (flagged_from k bs) (k + i) ≡ get_or bs i false
-has_node-flagged k i [] h = absurd (omega arith)
-has_node-flagged k zero (b ∷ bs) h =
-    let ms = flagged_from (k + 1) bs in
-    let here : k + 0 ≡ k = omega arith in
-    rw here (elim b as (λ v. has_node (cond v (k ∷ ms) ms) k ≡ v) [
-      true ↦ ap (λ t. t || has_node ms k) (same_node k)
-    | false ↦ has_node-below k ms (flagged-above k (k + 1) bs (omega arith)) ])
-has_node-flagged k (suc i) (b ∷ bs) h =
-    let ms = flagged_from (k + 1) bs in
-    let there : k + suc i ≡ (k + 1) + i = omega arith in
-    let later : has_node ms (k + suc i) ≡ get_or bs i false = rw there (has_node-flagged (k + 1) i bs (omega arith)) in
-    elim b as (λ v. has_node (cond v (k ∷ ms) ms) (k + suc i) ≡ get_or bs i false) [
-      true ↦ ap (λ t. t || has_node ms (k + suc i)) (other' (k + suc i) k (omega arith)) ∙ later
-    | false ↦ later ]
+-- a node is flagged exactly where it is a member
+pub flagged-member : (k : ℕ) (bs : List Bool) → k < length bs → (get_or bs k false ≡ true) ↔ IsAmong k (flagged_from 0 bs)
+flagged-member k bs l =
+    let here : 0 + k ≡ k = omega arith in
+    let tells : has_node (flagged_from 0 bs) k ≡ get_or bs k false = rw here at (has_node-flagged 0 k bs l) in
+    (λ t. has_node-from_true (flagged_from 0 bs) k (tells ∙ t), λ h. sym tells ∙ has_node-member (flagged_from 0 bs) k h)
+
+beq_decides : (a b : Bool) → Decides (beq a b) (a ≡ b)
+beq_decides true true = (λ _. refl, λ _. refl)
+beq_decides true false = (λ t. absurd (false≢true t), λ e. sym e)
+beq_decides false true = (λ t. absurd (false≢true t), λ e. e)
+beq_decides false false = (λ _. refl, λ _. refl)
+
+-- sets are equal exactly where their flags are
+pub flags-equal : (n : ℕ) (bs cs : List Bool) → length bs ≡ n → length cs ≡ n → pointwise beq bs cs ≡ pointwise eqb (flagged_from 0 bs) (flagged_from 0 cs)
+flags-equal n bs cs p q =
+    let flags : Decides (pointwise beq bs cs) (bs ≡ cs) = slice_eq-Decides beq_decides bs cs (pointwise beq bs cs) refl in
+    let nodes = slice_eq-Decides Decides-eqb (flagged_from 0 bs) (flagged_from 0 cs) (pointwise eqb (flagged_from 0 bs) (flagged_from 0 cs)) refl in
+    same_from_decides (pointwise beq bs cs) (pointwise eqb (flagged_from 0 bs) (flagged_from 0 cs))
+    (Decides-like (pointwise beq bs cs) (λ e. ap (flagged_from 0) e) (λ e. sym (flags-flagged n bs p) ∙ ap (flags_below n) e ∙ flags-flagged n cs q) flags)
+    nodes

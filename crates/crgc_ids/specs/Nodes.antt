@@ -1,5 +1,5 @@
 -- Rising lists of nodes, as numbers.
-use Rattle.std.specs.Prelude.{◌+◌, ◌==◌, ℕ, Bool, cond, nat_lt, List, [], ◌∷◌, map}
+use Rattle.std.specs.Prelude.{◌==◌, ℕ, Bool, cond, nat_lt, List, [], ◌∷◌}
 use Rattle.std.specs.List.{list_any, range_with_len}
 
 -- the nodes below n
@@ -14,12 +14,3 @@ has_node xs k = list_any (λ x. k == x) xs
 abbrev pub with_node : ℕ → List ℕ → List ℕ
 with_node k [] = k ∷ []
 with_node k (x ∷ xs) = cond (nat_lt k x) (k ∷ x ∷ xs) (cond (k == x) (x ∷ xs) (x ∷ with_node k xs))
-
--- the nodes whose flags are set, where the first flag is that of k
-abbrev pub flagged_from : ℕ → List Bool → List ℕ
-flagged_from k [] = []
-flagged_from k (b ∷ bs) = cond b (k ∷ flagged_from (k + 1) bs) (flagged_from (k + 1) bs)
-
--- the flags of the nodes below n that are in the list
-abbrev pub flags_below : ℕ → List ℕ → List Bool
-flags_below n xs = map (has_node xs) (nodes_below n)

@@ -4,10 +4,12 @@
 mod ids;
 pub mod laws;
 mod lists;
+mod node_set;
 mod rising;
 
 pub use ids::{ActorId, NodeId};
 pub use lists::{ActorList, ItemList, Octets, RefList};
+pub use node_set::NodeSet;
 pub use rising::{ActorCount, ActorCounts, PairCount, PairCounts, RisingList, Row};
 
 /// Want of memory: the allocator gave none.
