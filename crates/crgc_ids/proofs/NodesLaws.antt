@@ -1,12 +1,12 @@
 -- Rising lists of nodes, and the flags that stand for them.
-use Rattle.std.proofs.Common.{◌≡◌, ◌≤◌, ◌<◌, ◌+◌, ◌↔◌, ℕ, zero, suc, Bool, true, false, cond, List, [], ◌∷◌, length, set, get_or, eqb, ltb, refl, sym, ◌∙◌, ap, subst, arith}
+use Rattle.std.proofs.Common.{◌≡◌, ◌≤◌, ◌<◌, ◌+◌, ◌↔◌, ◌⊎◌, ℕ, zero, suc, Bool, true, false, cond, List, [], ◌∷◌, length, set, get_or, eqb, ltb, refl, sym, ◌∙◌, ap, subst, inl, inr, arith}
 use Rattle.std.proofs.lemmas.Bool.{false≢true}
 use Rattle.std.proofs.lemmas.Bool.Decides.{Decides-eqb, Decides-like, nat_tests, same_from_decides}
 use Rattle.std.proofs.lemmas.Slice.Eq.{slice_eq-Decides}
 use Rattle.std.specs.Bool.{Decides, beq}
 use Rattle.std.specs.Cmp.Lexicographic.{pointwise}
 use Rattle.std.specs.List.{AllByRecursion}
-use Rattle.crgc_ids.specs.Members.{IsAmong}
+use Rattle.crgc_ids.specs.Members.{IsAmong, IsPart}
 use Rattle.crgc_ids.specs.NodeFlags.{flagged-above, flagged_from, flags-flagged, flags_below, has_node-flagged, other', same_node}
 use Rattle.crgc_ids.specs.Nodes.{has_node, with_node}
 use Rattle.crgc_ids.specs.Rising.{IsRising}
@@ -89,3 +89,41 @@ flags-equal n bs cs p q =
     same_from_decides (pointwise beq bs cs) (pointwise eqb (flagged_from 0 bs) (flagged_from 0 cs))
     (Decides-like (pointwise beq bs cs) (λ e. ap (flagged_from 0) e) (λ e. sym (flags-flagged n bs p) ∙ ap (flags_below n) e ∙ flags-flagged n cs q) flags)
     nodes
+
+all_member : {A : Type 0} (P : A → Type 0) (x : A) (xs : List A) → AllByRecursion P xs → IsAmong x xs → P x
+all_member P x [] all h = absurd h
+all_member P x (y ∷ ys) all (inl e) = subst P (sym e) all.0
+all_member P x (y ∷ ys) all (inr h) = all_member P x ys all.1 h
+
+-- rising lists of the same nodes are equal
+pub rising-same : (xs ys : List ℕ) → IsRising ◌<◌ xs → IsRising ◌<◌ ys → IsPart xs ys → IsPart ys xs → xs ≡ ys
+rising-same [] [] r s p q = refl
+rising-same [] (y ∷ ys) r s p q = absurd (q y (inl refl))
+rising-same (x ∷ xs) [] r s p q = absurd (p x (inl refl))
+rising-same (x ∷ xs) (y ∷ ys) r s p q =
+    let first : x ≡ y = elim (p x (inl refl)) [
+          inl e ↦ e
+        | inr h ↦ elim (q y (inl refl)) [
+            inl e ↦ sym e
+          | inr k ↦ (let below = all_member (λ z. y < z) x ys s.0 h in let above = all_member (λ z. x < z) y xs r.0 k in absurd (omega arith)) ] ] in
+    let rest : xs ≡ ys = rising-same xs ys r.1 s.1
+        (λ z h. let above = all_member (λ z. x < z) z xs r.0 h in elim (p z (inr h)) [ inl e ↦ absurd (omega arith) | inr k ↦ k ])
+        (λ z h. let above = all_member (λ z. y < z) z ys s.0 h in elim (q z (inr h)) [ inl e ↦ absurd (omega arith) | inr k ↦ k ]) in
+    ap (λ z. z ∷ xs) first ∙ ap (λ zs. y ∷ zs) rest
+
+-- the members after a node is put in: the node, and those before
+pub IsAmong-with_node : (x k : ℕ) (xs : List ℕ) → IsAmong x (with_node k xs) ↔ ((x ≡ k) ⊎ IsAmong x xs)
+IsAmong-with_node x k [] = (λ h. h, λ h. h)
+IsAmong-with_node x k (y ∷ ys) =
+    let Told : List ℕ → Type 0 = λ zs. IsAmong x zs ↔ ((x ≡ k) ⊎ IsAmong x (y ∷ ys)) in
+    let later = IsAmong-with_node x k ys in
+    let beyond : Told (y ∷ with_node k ys) = (
+          λ h. elim h [ inl e ↦ inr (inl e) | inr m ↦ elim (later.0 m) [ inl e ↦ inl e | inr n ↦ inr (inr n) ] ],
+          λ h. elim h [ inl e ↦ inr (later.1 (inl e)) | inr m ↦ elim m [ inl e ↦ inl e | inr n ↦ inr (later.1 (inr n)) ] ]) in
+    let Here : Bool → Type 0 = λ b. eqb k y ≡ b → Told (cond b (y ∷ ys) (y ∷ with_node k ys)) in
+    let here : Here (eqb k y) = elim (eqb k y) as Here [
+          true ↦ λ t. (λ h. inr h, λ h. elim h [ inl e ↦ inl (e ∙ (Decides-eqb k y).0 t) | inr m ↦ m ])
+        | false ↦ λ _. beyond ] in
+    elim (ltb k y) as (λ b. Told (cond b (k ∷ y ∷ ys) (cond (eqb k y) (y ∷ ys) (y ∷ with_node k ys)))) [
+      true ↦ (λ h. h, λ h. h)
+    | false ↦ here refl ]
