@@ -102,13 +102,15 @@ rising-same [] (y ∷ ys) r s p q = absurd (q y (inl refl))
 rising-same (x ∷ xs) [] r s p q = absurd (p x (inl refl))
 rising-same (x ∷ xs) (y ∷ ys) r s p q =
     let first : x ≡ y = elim (p x (inl refl)) [
-          inl e ↦ e
-        | inr h ↦ elim (q y (inl refl)) [
-            inl e ↦ sym e
-          | inr k ↦ (let below = all_member (λ z. y < z) x ys s.0 h in let above = all_member (λ z. x < z) y xs r.0 k in absurd (omega arith)) ] ] in
+      | inl e ↦ e
+      | inr h ↦ elim (q y (inl refl)) [
+        | inl e ↦ sym e
+        | inr k ↦ (let below = all_member (λ z. y < z) x ys s.0 h in let above = all_member (λ z. x < z) y xs r.0 k in absurd (omega arith))
+      ]
+    ] in
     let rest : xs ≡ ys = rising-same xs ys r.1 s.1
-        (λ z h. let above = all_member (λ z. x < z) z xs r.0 h in elim (p z (inr h)) [ inl e ↦ absurd (omega arith) | inr k ↦ k ])
-        (λ z h. let above = all_member (λ z. y < z) z ys s.0 h in elim (q z (inr h)) [ inl e ↦ absurd (omega arith) | inr k ↦ k ]) in
+    (λ z h. let above = all_member (λ z. x < z) z xs r.0 h in elim (p z (inr h)) [ inl e ↦ absurd (omega arith) | inr k ↦ k ])
+    (λ z h. let above = all_member (λ z. y < z) z ys s.0 h in elim (q z (inr h)) [ inl e ↦ absurd (omega arith) | inr k ↦ k ]) in
     ap (λ z. z ∷ xs) first ∙ ap (λ zs. y ∷ zs) rest
 
 -- the members after a node is put in: the node, and those before
@@ -118,12 +120,15 @@ IsAmong-with_node x k (y ∷ ys) =
     let Told : List ℕ → Type 0 = λ zs. IsAmong x zs ↔ ((x ≡ k) ⊎ IsAmong x (y ∷ ys)) in
     let later = IsAmong-with_node x k ys in
     let beyond : Told (y ∷ with_node k ys) = (
-          λ h. elim h [ inl e ↦ inr (inl e) | inr m ↦ elim (later.0 m) [ inl e ↦ inl e | inr n ↦ inr (inr n) ] ],
-          λ h. elim h [ inl e ↦ inr (later.1 (inl e)) | inr m ↦ elim m [ inl e ↦ inl e | inr n ↦ inr (later.1 (inr n)) ] ]) in
+      λ h. elim h [ inl e ↦ inr (inl e) | inr m ↦ elim (later.0 m) [ inl e ↦ inl e | inr n ↦ inr (inr n) ] ],
+      λ h. elim h [ inl e ↦ inr (later.1 (inl e)) | inr m ↦ elim m [ inl e ↦ inl e | inr n ↦ inr (later.1 (inr n)) ] ],
+    ) in
     let Here : Bool → Type 0 = λ b. eqb k y ≡ b → Told (cond b (y ∷ ys) (y ∷ with_node k ys)) in
     let here : Here (eqb k y) = elim (eqb k y) as Here [
-          true ↦ λ t. (λ h. inr h, λ h. elim h [ inl e ↦ inl (e ∙ (Decides-eqb k y).0 t) | inr m ↦ m ])
-        | false ↦ λ _. beyond ] in
+      | true ↦ λ t. (λ h. inr h, λ h. elim h [ inl e ↦ inl (e ∙ (Decides-eqb k y).0 t) | inr m ↦ m ])
+      | false ↦ λ _. beyond
+    ] in
     elim (ltb k y) as (λ b. Told (cond b (k ∷ y ∷ ys) (cond (eqb k y) (y ∷ ys) (y ∷ with_node k ys)))) [
-      true ↦ (λ h. h, λ h. h)
-    | false ↦ here refl ]
+      | true ↦ (λ h. h, λ h. h)
+      | false ↦ here refl
+    ]
