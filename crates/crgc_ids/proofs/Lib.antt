@@ -1,4 +1,5 @@
 pub mod GreatestLaws
+mod LostNodesExamples
 pub mod LostNodesLaws
 pub mod MembersLaws
 pub mod NodesLaws
