@@ -1,13 +1,17 @@
 //! The names that every other crate uses: nodes, actors, sets of nodes, cuts, and small lists.
 #![tactic(auto)]
 
+mod cut;
 mod ids;
 pub mod laws;
 mod lists;
+mod node_set;
 mod rising;
 
+pub use cut::Cut;
 pub use ids::{ActorId, NodeId};
 pub use lists::{ActorList, ItemList, Octets, RefList};
+pub use node_set::NodeSet;
 pub use rising::{ActorCount, ActorCounts, PairCount, PairCounts, RisingList, Row};
 
 /// Want of memory: the allocator gave none.
