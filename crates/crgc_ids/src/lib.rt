@@ -18,7 +18,8 @@ pub use rising::{ActorCount, ActorCounts, PairCount, PairCounts, RisingList, Row
 #[derive(Clone, Copy, PartialEq, Eq, Debug)]
 pub struct NoMemory;
 
-/// Which limit was passed: the bytes of the input, the events, the actors of a node, or the bytes of a Delta.
+/// Which limit was passed: the bytes of the input, the events of the history, the actors of a node, or the actors that
+/// one bulletin names.
 #[derive(Clone, Copy, PartialEq, Eq, Debug)]
 pub enum Which {
     Input,
