@@ -26,3 +26,6 @@ pub enum Which {
     Actors,
     Delta,
 }
+
+#[cfg(test)]
+mod tests;
