@@ -2,10 +2,15 @@
 //! turns of actors begin.
 #![tactic(auto)]
 
+mod calls;
+mod edges;
 mod gate;
+mod memory;
 mod traits;
 mod whole;
 
+pub use edges::{StdSink, StdSource};
 pub use gate::{Gate, QuietGate};
+pub use memory::{MemorySink, MemorySource};
 pub use traits::{Failed, Sink, Source};
 pub use whole::{ReadAll, WriteFault, read_all, write_all};
