@@ -1,7 +1,7 @@
 -- Each message is admitted at most once: what was admitted to an actor, and what is open on links to it, is what was sent
 -- to it.
 use Rattle.std.proofs.Common.{◌≡◌, ◌≢◌, ◌<◌, ◌≤◌, ◌+◌, ◌&&◌, ◌||◌, ℕ, zero, suc, Bool, true, false, not, List, [], ◌∷◌, ◌++◌, length, refl, sym, ◌∙◌, ap, subst, inl, inr, arith, IsTrue, IsFalse, cond, if◌then◌else◌, filter, sum_by, slice_get, option_to_list}
-use Rattle.std.proofs.lemmas.Bool.{false≢true, cases_lt, eq-eqb}
+use Rattle.std.proofs.lemmas.Bool.{false≢true, cases_lt, eq-eqb, ne_eqb}
 use Rattle.std.proofs.lemmas.List.Elements.{filter-append}
 use Rattle.std.proofs.lemmas.List.Sums.{sum_by-append}
 use Rattle.std.specs.Prelude.{◌==◌}
@@ -12,7 +12,7 @@ use Rattle.history_model.specs.Cluster.{Cluster, same_actor}
 use Rattle.history_model.specs.Messages.{Message, sent, message_at, was_admitted, admitted_by, is_to, mail}
 use Rattle.history_model.specs.Legal.{IsLegal}
 use Rattle.history_model.specs.Quiescent.{IsOnLink}
-use Rattle.history_model.proofs.Basics.{not_true, eqb-refl, eqb-equal, same_actor-refl, same_actor-equal, legal-kept}
+use Rattle.history_model.proofs.Basics.{not_true, eqb-refl, same_actor-refl, same_actor-equal, legal-kept}
 use Rattle.history_model.proofs.Sums.{all_sent}
 use Rattle.history_model.proofs.AccountsGrowth.{sent-begins}
 use Rattle.history_model.proofs.AccountsCopies.{admitted-was_sent}
@@ -69,18 +69,14 @@ mail-and_open cl (_ ∷ p) legal b w = mail-and_open cl p legal.1 b w
 pub mail-sent : (cl : Cluster) (h : List Event) → IsLegal cl h → (b : Actor) (w : Message → ℕ) → sum_by w (mail b h) ≤ sum_by w (filter (is_to b) (all_sent h))
 mail-sent cl h legal b w = omega (arith, mail-and_open cl h legal b w)
 
--- and with it a message under way from another node
-pub mail-open : (cl : Cluster) (h : List Event) → IsLegal cl h → (m : Message) → m.from.node ≢ m.to.node → IsOnLink h m → (w : Message → ℕ) → sum_by w (mail m.to h) + w m ≤ sum_by w (filter (is_to m.to) (all_sent h))
-mail-open cl h legal m apart on_link w =
+-- and with it a message under way
+pub mail-open : (cl : Cluster) (h : List Event) → IsLegal cl h → (m : Message) → IsOnLink h m → (w : Message → ℕ) → sum_by w (mail m.to h) + w m ≤ sum_by w (filter (is_to m.to) (all_sent h))
+mail-open cl h legal m on_link w =
     let s = m.from.node in
     let d = m.to.node in
-    let k = on_link.0 in
-    let split = elim (s == d) as (λ v. (s == d) ≡ v → v ≡ false) [
-      | true ↦ λ same. absurd (apart (eqb-equal s d same))
-      | false ↦ λ _. refl
-    ] in
-    let weight : weigh m.to w (message_at s d k h) ≡ w m = rw (on_link.1, same_actor-refl m.to) (omega arith) in
-    omega (arith, weight, mail-and_open cl h legal m.to w, open-admitting (admitted_in h) m.to w s d k (split refl) on_link.3 h)
+    let weight : weigh m.to w (message_at s d on_link.0 h) ≡ w m = rw (on_link.1, same_actor-refl m.to) (omega arith) in
+    let taken_out = open-admitting (admitted_in h) m.to w s d on_link.0 (ne_eqb s d on_link.5) on_link.3 h in
+    omega (arith, weight, mail-and_open cl h legal m.to w, taken_out)
 
 -- ---- where nothing that weighs is open
 
