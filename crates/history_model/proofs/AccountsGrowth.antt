@@ -106,6 +106,7 @@ noted-grows cl test (e ∷ q) p = omega (arith, noted-grows cl test q p)
 
 -- ---- states
 
+-- a test or one that passes
 or-true : (b : Bool) → (b || true) ≡ true
 or-true true = refl
 or-true false = refl

@@ -60,6 +60,7 @@ sent-noted cl (_ ∷ p) sel a = omega (arith, sent-noted cl p sel a)
 abbrev pub carries_from : (ℕ → Bool) → Actor → Message → ℕ
 carries_from sel a m = if sel m.from.node then tally (same_actor a) m.refs else 0
 
+-- a choice between equal numbers
 if-same : (v : Bool) (n : ℕ) → cond v n n ≡ n
 if-same true n = refl
 if-same false n = refl
@@ -125,6 +126,7 @@ sent-none : (test : Fact → Bool) (f t : Actor) (refs : List Actor) → ((r : A
 sent-none test f t [] none = refl
 sent-none test f t (r ∷ refs) none = rw (none r) (sent-none test f t refs none)
 
+-- to add one where a test passes
 if-one : (v : Bool) (n : ℕ) → n + cond v (0 + 1) 0 ≡ cond v (n + 1) n
 if-one true n = omega arith
 if-one false n = omega arith
