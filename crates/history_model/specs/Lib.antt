@@ -11,4 +11,8 @@ pub mod Sweeps
 pub mod Legal
 pub mod Quiescent
 pub mod Settled
+pub mod Lines
+pub mod Report
+pub mod Limits
+pub mod Story
 pub mod Rows
