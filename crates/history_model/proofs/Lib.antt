@@ -1,2 +1,9 @@
 pub mod Basics
 pub mod Sums
+pub mod FoldSumsKnown
+pub mod FoldSumsDead
+pub mod FoldSumsReached
+pub mod FoldSumsNotes
+pub mod FoldSumsCuts
+pub mod FoldSumsStreams
+pub mod FoldSumsCounts
