@@ -1,5 +1,5 @@
--- Cuts: where the last flush before a position lies, and the flags there.
-use Rattle.std.proofs.Common.{◌≡◌, ◌<◌, ◌≤◌, ◌+◌, ◌&&◌, ℕ, suc, Bool, true, false, cond, List, [], ◌∷◌, ◌++◌, length, refl, sym, ◌∙◌, ap, arith}
+-- Cuts: where the last flush before a position lies, and the flags there. Both are one recursion, `last_flush`.
+use Rattle.std.proofs.Common.{◌≡◌, ◌<◌, ◌≤◌, ◌&&◌, ℕ, suc, Bool, true, false, cond, List, [], ◌∷◌, ◌++◌, length, refl, sym, ◌∙◌, ap, inl, inr, arith}
 use Rattle.std.proofs.lemmas.Bool.Decides.{Decides-ltb}
 use Rattle.std.specs.Prelude.{◌==◌, nat_lt, Option, Some, None}
 use Rattle.crgc_ids.specs.Actor.{Actor}
@@ -8,10 +8,81 @@ use Rattle.history_model.specs.declared.events.Event.TheVariants.{Flush, Publish
 use Rattle.history_model.specs.Cluster.{Cluster, same_actor}
 use Rattle.history_model.specs.Facts.{Flags}
 use Rattle.history_model.specs.Streams.{flags_at, stream}
-use Rattle.history_model.proofs.Basics.{and_true, same_actor-equal}
+use Rattle.history_model.proofs.Basics.{and_true, same_actor-equal, true_or_false}
 use Rattle.history_model.proofs.Sums.{publish_cut, flush_cut, flags_cut}
 
--- what the flags at a cut say: a flush event below the position, the last, has its position as the cut, and these flags
+-- ---- tests of an order
+
+pub below_true : (k n : ℕ) → k < n → nat_lt k n ≡ true
+below_true k n = (Decides-ltb k n).1
+
+pub below_false : (k n : ℕ) → n ≤ k → nat_lt k n ≡ false
+below_false k n l =
+    elim (true_or_false (nat_lt k n)) [
+      | inl t ↦ (let less = (Decides-ltb k n).0 t in absurd (omega arith))
+      | inr f ↦ f
+    ]
+
+pub and_false : (a b : Bool) → b ≡ false → (a && b) ≡ false
+and_false true b e = e
+and_false false b e = refl
+
+-- ---- the last flush before a position
+
+abbrev pub is_flush_of : Actor → Event → Bool
+is_flush_of a (Flush b) = same_actor b a
+is_flush_of a _ = false
+
+-- what `get` says of the history before the last flush of a before position t, or else `none`
+abbrev pub last_flush : {X : Type 0} → X → (List Event → X) → Actor → ℕ → List Event → X
+last_flush none get a t [] = none
+last_flush none get a t (e ∷ p) =
+    cond (is_flush_of a e && nat_lt (length p) t) (get p) (last_flush none get a t p)
+
+module _ {X : Type 0} (none : X) (get : List Event → X) (a : Actor) where
+  -- an event that is no flush of a changes nothing
+  pub last_flush-other : (t : ℕ) (e : Event) (p : List Event) → is_flush_of a e ≡ false → last_flush none get a t (e ∷ p) ≡ last_flush none get a t p
+  last_flush-other t e p f = ap (λ v. cond (v && nat_lt (length p) t) (get p) (last_flush none get a t p)) f
+
+  -- nor does an event at the position or above it
+  pub last_flush-later : (t : ℕ) (e : Event) (p : List Event) → t ≤ length p → last_flush none get a t (e ∷ p) ≡ last_flush none get a t p
+  last_flush-later t e p l =
+      ap (λ v. cond v (get p) (last_flush none get a t p)) (and_false (is_flush_of a e) (nat_lt (length p) t) (below_false (length p) t l))
+
+  pub last_flush-here : (t : ℕ) (e : Event) (p : List Event) → is_flush_of a e ≡ true → length p < t → last_flush none get a t (e ∷ p) ≡ get p
+  last_flush-here t e p f l =
+      ap (λ v. cond (v && nat_lt (length p) t) (get p) (last_flush none get a t p)) f
+      ∙ ap (λ v. cond v (get p) (last_flush none get a t p)) (below_true (length p) t l)
+
+  -- all positions past the end are one
+  pub last_flush-end : (t : ℕ) (h : List Event) → length h ≤ t → last_flush none get a t h ≡ last_flush none get a (length h) h
+  last_flush-end t [] l = refl
+  last_flush-end t (e ∷ p) l =
+      let low : length p < suc (length p) = omega arith in
+      let tests : nat_lt (length p) t ≡ nat_lt (length p) (suc (length p)) =
+        below_true (length p) t (omega arith) ∙ sym (below_true (length p) (suc (length p)) low) in
+      let before : last_flush none get a t p ≡ last_flush none get a (suc (length p)) p =
+        last_flush-end t p (omega arith) ∙ sym (last_flush-end (suc (length p)) p (omega arith)) in
+      ap (λ v. cond (is_flush_of a e && v) (get p) (last_flush none get a t p)) tests
+      ∙ ap (λ x. cond (is_flush_of a e && nat_lt (length p) (suc (length p))) (get p) x) before
+
+pub flush_cut-last : (a : Actor) (t : ℕ) (h : List Event) → flush_cut a t h ≡ last_flush 0 length a t h
+flush_cut-last a t [] = refl
+flush_cut-last a t (Flush b ∷ p) = ap (λ x. cond (same_actor b a && nat_lt (length p) t) (length p) x) (flush_cut-last a t p)
+flush_cut-last a t (e ∷ p) = flush_cut-last a t p
+
+-- the flags of a, as far as it was flushed
+abbrev pub some_flags : Actor → List Event → Option Flags
+some_flags a p = Some (flags_at a p)
+
+pub flags_cut-last : (a : Actor) (t : ℕ) (h : List Event) → flags_cut a t h ≡ last_flush None (some_flags a) a t h
+flags_cut-last a t [] = refl
+flags_cut-last a t (Flush b ∷ p) = ap (λ x. cond (same_actor b a && nat_lt (length p) t) (Some (flags_at a p)) x) (flags_cut-last a t p)
+flags_cut-last a t (e ∷ p) = flags_cut-last a t p
+
+-- ---- the flush event at a cut
+
+-- a flush of a before position t, at position u and with the flags g
 abbrev pub IsFlushAt : Actor → ℕ → List Event → ℕ → Flags → Type 0
 IsFlushAt a t h u g =
     (q : List Event) × (p : List Event) × (h ≡ q ++ (Flush a ∷ p)) × (u ≡ length p) × (length p < t) × (g ≡ flags_at a p)
@@ -46,6 +117,8 @@ flags-none a t (Flush b ∷ p) e =
       | false ↦ before
     ]) e
 flags-none a t (e ∷ p) s = flags-none a t p s
+
+-- ---- cuts lie within the history
 
 pub flush_cut-within : (a : Actor) (t : ℕ) (h : List Event) → flush_cut a t h ≤ length h
 flush_cut-within a t [] = omega arith

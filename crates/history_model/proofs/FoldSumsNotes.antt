@@ -12,6 +12,7 @@ use Rattle.history_model.specs.Cluster.{Cluster, same_actor, newborn}
 use Rattle.history_model.specs.Facts.{Fact, Note, received, sent_to, created, released, is_received, is_released, note_by, notes}
 use Rattle.history_model.proofs.Basics.{and_true, same_actor-equal}
 use Rattle.history_model.proofs.Sums.{noted_sum, told_sum}
+use Rattle.history_model.proofs.FoldSumsCuts.{below_true}
 
 -- ---- tallies
 
@@ -44,9 +45,6 @@ tally-none s xs h =
     tally-false (y ∷ ys) = tally-false ys
 
 -- ---- tests on cuts
-
-below_true : (k n : ℕ) → k < n → nat_lt k n ≡ true
-below_true k n = (Decides-ltb k n).1
 
 both_true : (a b : Bool) → a ≡ true → b ≡ true → (a && b) ≡ true
 both_true a b s t = ap (λ v. v && b) s ∙ t

@@ -5,5 +5,6 @@ pub mod FoldSumsDead
 pub mod FoldSumsReached
 pub mod FoldSumsNotes
 pub mod FoldSumsCuts
+pub mod FoldSumsBulletins
 pub mod FoldSumsStreams
 pub mod FoldSumsCounts
