@@ -9,6 +9,7 @@ pub mod AccountsMail
 pub mod AccountsTaken
 pub mod FoldSumsKnown
 pub mod FoldSumsDead
+pub mod FoldSumsReached
 pub mod FoldSumsNotes
 pub mod FoldSumsCuts
 pub mod FoldSumsBulletins

@@ -15,4 +15,5 @@ pub mod Lines
 pub mod Report
 pub mod Limits
 pub mod Story
+pub mod Reached
 pub mod Rows
