@@ -1,7 +1,7 @@
 -- At a quiet point of m, every quiescent actor of m is dead in what is folded at m: the members of a quiet set on nodes
 -- that are up are no pseudoroots, and who has a positive edge to one holds it.
 use Rattle.std.proofs.Common.{◌≡◌, ◌<◌, ◌≤◌, ◌+◌, ◌&&◌, ◌||◌, ◌⊎◌, ◌==◌, ℕ, Bool, true, false, not, List, [], ◌∷◌, ◌++◌, refl, sym, ◌∙◌, ap, subst, inl, inr, arith, IsTrue, IsFalse, cond, filter, sum_by, nat_lt, Option, Some, None, unwrap_or}
-use Rattle.std.proofs.lemmas.Bool.{and_parts, cases_lt, cond_both, false≢true, or_from}
+use Rattle.std.proofs.lemmas.Bool.{and_parts, cases_lt, cond_both, false≢true, or_from, or_left}
 use Rattle.std.proofs.lemmas.Bool.Decides.{Decides-eqb, Decides-ltb}
 use Rattle.crgc_ids.specs.Actor.{Actor}
 use Rattle.crgc_ids.specs.Members.{IsAmong}
@@ -19,7 +19,7 @@ use Rattle.history_model.specs.Sweeps.{dead_at}
 use Rattle.history_model.specs.Legal.{IsLegal}
 use Rattle.history_model.specs.Quiescent.{IsQuietPoint, IsQuietSet, IsQuiescent}
 use Rattle.history_model.proofs.Basics.{and_true, not_true, same_actor-equal}
-use Rattle.history_model.proofs.Sums.{all_sent, publish_cut}
+use Rattle.history_model.proofs.Sums.{all_sent, told_cut}
 use Rattle.history_model.proofs.AccountsBirths.{born-on_node, noted-born, sent-born}
 use Rattle.history_model.proofs.AccountsNotes.{carries_from, created-noted, received-noted, released-noted, sent-noted}
 use Rattle.history_model.proofs.FoldSumsCounts.{created-told, received-told, released-told, sent-told}
@@ -36,6 +36,24 @@ use Rattle.history_model.proofs.CompletenessTold.{quiet-flags, quiet-told}
 -- the nodes that are lost at m
 abbrev pub lost_at : Cluster → ℕ → List Event → ℕ → Bool
 lost_at cl m h = is_lost cl (folded cl m h)
+
+-- a pair names its owner
+created-names : (b a : Actor) (x : Fact) → is_created b a x ≡ true → names b x ≡ true
+created-names b a (created c d) pass = or_left (same_actor c b) (same_actor d b) (and_true (same_actor c b) (same_actor d a) pass).0
+created-names b a _ pass = absurd (false≢true pass)
+
+-- the facts with an actor's flags name it
+last_flags-named : (a : Actor) (xs : List Fact) (g : Flags) → last_flags a xs ≡ Some g → (x : Fact) × IsAmong x xs × (names a x ≡ true)
+last_flags-named a [] g e = absurd (cc)
+last_flags-named a (flagged b flags ∷ xs) g e =
+    let later : last_flags a xs ≡ Some g → (x : Fact) × IsAmong x (flagged b flags ∷ xs) × (names a x ≡ true) = λ k.
+        let found = last_flags-named a xs g k in
+        (found.0, inr found.1, found.2) in
+    cond_both (same_actor b a) (Some (unwrap_or (last_flags a xs) flags)) (last_flags a xs) (λ o. o ≡ Some g → (x : Fact) × IsAmong x (flagged b flags ∷ xs) × (names a x ≡ true))
+    (λ s _. (flagged b flags, inl refl, s)) (λ _. later) e
+last_flags-named a (_ ∷ xs) g e =
+    let found = last_flags-named a xs g e in
+    (found.0, inr found.1, found.2)
 
 -- ---- counts at a quiet point
 
@@ -78,3 +96,80 @@ module _ (cl : Cluster) (m : ℕ) (h : List Event) (legal : IsLegal cl h) (here 
       created-told cl h (cut_at cl m h) (lost_at cl m h) b a legal
       ∙ quiet-told cl m h legal quiet (λ x. not (lost_at cl m h x.by.node) && is_created b a x.fact) (λ e p x among pass born. outside-told (λ x. is_created b a x.fact) x pass born)
       ∙ created-noted cl h (λ n. not (lost_at cl m h n)) b a (ap not out)
+
+  -- ---- the members of a quiet set on nodes that are up
+
+  -- the owner of a positive edge is on a node of the cluster
+  edge-inside : (b a : Actor) → has_edge cl (lost_at cl m h) (folded cl m h) b a ≡ true → b.node < cl.nodes
+  edge-inside b a edge =
+      let f = folded cl m h in
+      let lost = lost_at cl m h in
+      let more = (Decides-ltb (released_count cl f b a) (created_count cl lost f b a + carried_count cl lost f b a)).0 edge in
+      elim (cases_lt b.node cl.nodes) [
+        | inl below ↦ below
+        | inr outside ↦ (
+            let none = carried-outside cl h (cut_at cl m h) lost legal b a outside in
+            let test : Note → Bool = λ x. not (lost x.by.node) && is_created b a x.fact in
+            let counted = created-told cl h (cut_at cl m h) lost b a legal in
+            let noted = told-noted cl (told_cut cl (cut_at cl m h) h) test h in
+            let found = noted-born cl h legal test (omega (arith, more, none, counted, noted)) in
+            let created_b = (and_true (not (lost found.0.by.node)) (is_created b a found.0.fact) found.1).1 in
+            born-on_node cl h legal b (found.2.1 b (created-names b a found.0.fact created_b)))
+      ]
+
+  -- a member on a node that is up took all that was told or admitted for it
+  member-balanced : (q : List Actor) → IsQuietSet cl h q → (a : Actor) → IsAmong a q → IsTrue (is_up a.node h) → received_count cl (folded cl m h) a ≡ told_count cl (lost_at cl m h) (folded cl m h) a + admitted_count cl (lost_at cl m h) (folded cl m h) a
+  member-balanced q set a member up =
+      let below = born-on_node cl h legal a (set.born a member) in
+      let lost = lost_at cl m h in
+      let received = received-all a up in
+      let told = told-all_sent a in
+      let admitted = admitted-mail cl h (cut_at cl m h) lost legal (settled cl h legal (cut_at cl m h)) a below (up-not_lost a.node below up) in
+      let took = quiet-takes cl m h legal quiet lost sender-up a up (λ x live to. set.no_mail x live (subst (λ b. IsAmong b q) (sym to) member)) in
+      omega (arith, received, told, admitted, took)
+
+  -- who has a positive edge to such a member is one too, unless its node is lost
+  member-owner : (q : List Actor) → IsQuietSet cl h q → (b a : Actor) → IsAmong a q → IsTrue (is_up a.node h) → has_edge cl (lost_at cl m h) (folded cl m h) b a ≡ true → lost_at cl m h b.node ≡ false → IsAmong b q × IsTrue (is_up b.node h)
+  member-owner q set b a member up edge out =
+      let below = edge-inside b a edge in
+      let lost = lost_at cl m h in
+      let f = folded cl m h in
+      let b_up = not_lost-up b.node below out in
+      let more = (Decides-ltb (released_count cl f b a) (created_count cl lost f b a + carried_count cl lost f b a)).0 edge in
+      let released = released-all b a b_up in
+      let created = created-all b a (up-not_lost a.node (born-on_node cl h legal a (set.born a member)) up) in
+      let carried_b = carried-mail cl h (cut_at cl m h) lost legal (settled cl h legal (cut_at cl m h)) b a below out in
+      let took = quiet-carried cl m h legal quiet lost sender-up b a b_up (λ x live. set.not_carried x live a member) in
+      (set.holders b a member b_up (omega (arith, more, released, created, carried_b, took)), b_up)
+
+  -- a member on a node that is up is known, and no pseudoroot
+  member-candidate : (q : List Actor) → IsQuietSet cl h q → (a : Actor) → IsAmong a q → IsTrue (is_up a.node h) → IsCandidate cl (lost_at cl m h) (folded cl m h) a
+  member-candidate q set a member up =
+      let f = folded cl m h in
+      let lost = lost_at cl m h in
+      let below = born-on_node cl h legal a (set.born a member) in
+      let flags = quiet-flags cl m h legal quiet a (set.born a member) up in
+      let own : own_flags f a ≡ Some flags.0 = own-flags cl h a (cut_at cl m h a.node) ∙ flags.1 in
+      let named = last_flags-named a (delta_facts (f a.node)) flags.0 own in
+      let known = (known-named cl f a).1 (a.node, below, named.0, delta-notice named.0 (f a.node) named.1, named.2) in
+      let passive : may_act (own_flags f a) ≡ false = ap may_act own ∙ or_from flags.0.busy flags.0.root (flags.2 ∙ set.idle a member) (flags.3 ∙ set.no_root a member) in
+      let balanced = (Decides-eqb (received_count cl f a) (told_count cl lost f a + admitted_count cl lost f a)).1 (member-balanced q set a member up) in
+      (known, up-not_lost a.node below up, or_from (may_act (own_flags f a)) (not (is_balanced cl lost f a)) passive (ap not balanced))
+
+  -- the quiescent actors of nodes that are up are dead in what is folded at m
+  pub completeness-up : (a : Actor) → IsTrue (is_up a.node h) → IsQuiescent cl h a → IsAmong a (dead_at cl m h)
+  completeness-up a up quiescent =
+      let q = quiescent.0 in
+      let set = quiescent.2 in
+      let is_here : Actor → Bool = λ b. is_up b.node h in
+      dead-greatest cl (lost_at cl m h) (folded cl m h) (filter is_here q)
+        (λ b among. (let kept = IsAmong-from_filter is_here b q among in member-candidate q set b kept.0 kept.1))
+        (λ b c among edge out. (
+          let kept = IsAmong-from_filter is_here c q among in
+          let owner = member-owner q set b c kept.0 kept.1 edge out in
+          IsAmong-filter is_here b q owner.0 owner.1))
+        a (IsAmong-filter is_here a q quiescent.1 up)
+
+  -- and so are those of m
+  pub completeness : (a : Actor) → a.node ≡ m → IsQuiescent cl h a → IsAmong a (dead_at cl m h)
+  completeness a on = completeness-up a (subst (λ n. IsTrue (is_up n h)) (sym on) quiet.up)
