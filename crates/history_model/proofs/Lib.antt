@@ -1,2 +1,4 @@
 pub mod Basics
 pub mod Sums
+pub mod Given
+pub mod SoundnessSums
