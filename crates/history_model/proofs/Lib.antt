@@ -2,3 +2,8 @@ pub mod Basics
 pub mod Sums
 pub mod Given
 pub mod SoundnessSums
+pub mod AccountsBirths
+pub mod AccountsGrowth
+pub mod AccountsNotes
+pub mod AccountsMail
+pub mod AccountsTaken
