@@ -7,3 +7,10 @@ pub mod AccountsGrowth
 pub mod AccountsNotes
 pub mod AccountsMail
 pub mod AccountsTaken
+pub mod FoldSumsKnown
+pub mod FoldSumsDead
+pub mod FoldSumsReached
+pub mod FoldSumsNotes
+pub mod FoldSumsCuts
+pub mod FoldSumsStreams
+pub mod FoldSumsCounts

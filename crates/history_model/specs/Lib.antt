@@ -11,4 +11,5 @@ pub mod Sweeps
 pub mod Legal
 pub mod Quiescent
 pub mod Settled
+pub mod Reached
 pub mod Rows
