@@ -14,3 +14,8 @@ pub mod FoldSumsNotes
 pub mod FoldSumsCuts
 pub mod FoldSumsStreams
 pub mod FoldSumsCounts
+pub mod LinksWindows
+pub mod LinksStreams
+pub mod LinksSettled
+pub mod LinksMail
+pub mod LinksLost
