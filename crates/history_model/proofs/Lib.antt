@@ -1,6 +1,5 @@
 pub mod Basics
 pub mod Sums
-pub mod Given
 pub mod SoundnessSums
 pub mod AccountsBirths
 pub mod AccountsGrowth
@@ -19,3 +18,4 @@ pub mod LinksStreams
 pub mod LinksSettled
 pub mod LinksMail
 pub mod LinksLost
+pub mod Supervision
