@@ -19,3 +19,5 @@ pub mod LinksSettled
 pub mod LinksMail
 pub mod LinksLost
 pub mod Supervision
+pub mod SoundnessTold
+pub mod SoundnessBounds
