@@ -289,7 +289,7 @@ lost-final cl f s d lost below out =
     let all = lost_nodes-lost cl.nodes (final_links cl f) s (lost-among cl f s lost) in
     (final_links-from cl f s d (all.2 d below (λ m. true≢false (sym (among-lost cl f d m) ∙ out)))).1
 
--- the lost nodes of a fold may stand in the place of the lost nodes
+-- so it is at any first bulletins of the streams
 pub settled : (cl : Cluster) (h : List Event) → IsLegal cl h → (c : ℕ → ℕ) → AreSettled cl c (is_lost cl (fold_to cl c h)) h
 settled cl h legal c =
     let f = fold_to cl c h in record {
