@@ -10,8 +10,8 @@ pub mod AccountsTaken
 pub mod FoldSumsKnown
 pub mod FoldSumsDead
 pub mod FoldSumsReached
-pub mod FoldSumsNotes
 pub mod FoldSumsCuts
+pub mod FoldSumsNotes
 pub mod FoldSumsBulletins
 pub mod FoldSumsStreams
 pub mod FoldSumsCounts
@@ -28,3 +28,10 @@ pub mod Stability
 pub mod CompletenessTold
 pub mod CompletenessMail
 pub mod Completeness
+pub mod SoundnessSums
+pub mod SoundnessTold
+pub mod SoundnessBounds
+pub mod SoundnessStep
+pub mod SoundnessQuiet
+pub mod Soundness
+pub mod Supervision

@@ -11,9 +11,9 @@ pub mod Sweeps
 pub mod Legal
 pub mod Quiescent
 pub mod Settled
+pub mod Reached
 pub mod Lines
 pub mod Report
 pub mod Limits
 pub mod Story
-pub mod Reached
 pub mod Rows
