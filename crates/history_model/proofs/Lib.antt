@@ -35,3 +35,4 @@ pub mod SoundnessStep
 pub mod SoundnessQuiet
 pub mod Soundness
 pub mod Supervision
+pub mod Stopped

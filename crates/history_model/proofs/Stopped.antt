@@ -1,0 +1,68 @@
+-- Stopped actors: whom a sweep stopped is quiescent ever after, and after a sweep at a quiet point the stopped actors of
+-- the node are exactly its quiescent ones.
+use Rattle.std.proofs.Common.{◌≡◌, ◌<◌, ◌↔◌, ◌&&◌, ◌||◌, ◌==◌, ℕ, Bool, true, false, List, [], ◌∷◌, refl, sym, ◌∙◌, ap, inl, inr}
+use Rattle.std.proofs.lemmas.Bool.{and_from, false≢true, or_left, ltb-true}
+use Rattle.crgc_ids.specs.Actor.{Actor}
+use Rattle.crgc_ids.specs.Members.{IsAmong}
+use Rattle.history_model.specs.declared.events.Event.{Event}
+use Rattle.history_model.specs.declared.events.Event.TheVariants.{Sweep}
+use Rattle.history_model.specs.Cluster.{Cluster}
+use Rattle.history_model.specs.Folds.{cut_at, folded, is_lost}
+use Rattle.history_model.specs.Graph.{holds_actor}
+use Rattle.history_model.specs.Sweeps.{dead_at, is_swept, is_stopped}
+use Rattle.history_model.specs.Legal.{IsLegal}
+use Rattle.history_model.specs.Quiescent.{IsQuietPoint, IsQuietSet, IsQuiescent}
+use Rattle.history_model.proofs.Basics.{and_true, eqb-refl, legal-kept, or_true}
+use Rattle.history_model.proofs.Completeness.{completeness}
+use Rattle.history_model.proofs.FoldSumsKnown.{holds-among}
+use Rattle.history_model.proofs.LinksSettled.{settled}
+use Rattle.history_model.proofs.Soundness.{soundness}
+use Rattle.history_model.proofs.Stability.{quiescent-stays}
+
+-- the dead of what is folded at a node are a quiet set
+pub dead_at-quiet : (cl : Cluster) (m : ℕ) (h : List Event) → IsLegal cl h → IsQuietSet cl h (dead_at cl m h)
+dead_at-quiet cl m h legal =
+    soundness cl h (cut_at cl m h) (is_lost cl (folded cl m h)) legal (settled cl h legal (cut_at cl m h))
+
+-- whom a sweep finds is quiescent
+swept-quiescent : (cl : Cluster) (m : ℕ) (h : List Event) (a : Actor) → IsLegal cl h → is_swept cl m h a ≡ true → IsQuiescent cl h a
+swept-quiescent cl m h a legal swept =
+    let found = (and_true (a.node == m) (holds_actor (dead_at cl m h) a) swept).1 in
+    (dead_at cl m h, (holds-among (dead_at cl m h) a).0 found, dead_at-quiet cl m h legal)
+
+-- whom a sweep stopped is quiescent ever after
+pub stopped-quiescent : (cl : Cluster) (h : List Event) (a : Actor) → IsLegal cl h → is_stopped cl a h ≡ true → IsQuiescent cl h a
+stopped-quiescent cl [] a legal stopped = absurd (false≢true stopped)
+stopped-quiescent cl (Sweep m ∷ p) a legal stopped =
+    quiescent-stays cl (Sweep m ∷ []) p a legal (elim (or_true (is_swept cl m p a) (is_stopped cl a p) stopped) [
+      | inl now ↦ swept-quiescent cl m p a legal.1 now
+      | inr before ↦ stopped-quiescent cl p a legal.1 before
+    ])
+stopped-quiescent cl (e ∷ p) a legal stopped = quiescent-stays cl (e ∷ []) p a legal (stopped-quiescent cl p a legal.1 stopped)
+
+-- after a sweep at a quiet point exactly the quiescent actors of the node are stopped
+pub quiet-stopped : (cl : Cluster) (m : ℕ) (h : List Event) → IsLegal cl (Sweep m ∷ h) → IsQuietPoint cl m h → (a : Actor) → a.node ≡ m → (is_stopped cl a (Sweep m ∷ h) ≡ true) ↔ IsQuiescent cl h a
+quiet-stopped cl m h legal quiet a on = (
+  λ stopped. elim (or_true (is_swept cl m h a) (is_stopped cl a h) stopped) [
+    | inl now ↦ swept-quiescent cl m h a legal.1 now
+    | inr before ↦ stopped-quiescent cl h a legal.1 before
+  ],
+  λ quiescent.
+      let here = ltb-true m cl.nodes (legal-kept cl (Sweep m) h legal).0 in
+      let dead = completeness cl m h legal.1 here quiet a on quiescent in
+      let own : a.node == m ≡ true = ap (λ n. n == m) on ∙ eqb-refl m in
+      or_left (is_swept cl m h a) (is_stopped cl a h) (and_from (a.node == m) (holds_actor (dead_at cl m h) a) own ((holds-among (dead_at cl m h) a).1 dead)),
+)
+
+-- the sweep itself changes nothing of this
+pub sweep-quiescent : (cl : Cluster) (m : ℕ) (h : List Event) (a : Actor) → IsQuiescent cl (Sweep m ∷ h) a → IsQuiescent cl h a
+sweep-quiescent cl m h a quiescent =
+    let set = quiescent.2 in
+    (quiescent.0, quiescent.1, record {
+      born = set.born;
+      idle = set.idle;
+      no_root = set.no_root;
+      no_mail = set.no_mail;
+      not_carried = set.not_carried;
+      holders = set.holders;
+    })
