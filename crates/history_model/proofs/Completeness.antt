@@ -19,28 +19,26 @@ use Rattle.history_model.specs.Sweeps.{dead_at}
 use Rattle.history_model.specs.Legal.{IsLegal}
 use Rattle.history_model.specs.Quiescent.{IsQuietPoint, IsQuietSet, IsQuiescent}
 use Rattle.history_model.proofs.Basics.{and_true, not_true, same_actor-equal}
-use Rattle.history_model.proofs.Sums.{all_sent, told_cut}
+use Rattle.history_model.proofs.Sums.{all_sent, noted_sum, told_cut, told_sum}
 use Rattle.history_model.proofs.AccountsBirths.{born-on_node, noted-born, sent-born}
-use Rattle.history_model.proofs.AccountsNotes.{carries_from, created-noted, received-noted, released-noted, sent-noted}
+use Rattle.history_model.proofs.AccountsNotes.{received-noted, released-noted}
 use Rattle.history_model.proofs.FoldSumsCounts.{created-told, received-told, released-told, sent-told}
 use Rattle.history_model.proofs.FoldSumsDead.{IsCandidate, dead-greatest, not_false}
-use Rattle.history_model.proofs.FoldSumsKnown.{delta-notice, known-named}
+use Rattle.history_model.proofs.FoldSumsKnown.{created-names, delta-notice, known-named}
 use Rattle.history_model.proofs.FoldSumsNotes.{noter-received, noter-released, told-noted}
 use Rattle.history_model.proofs.FoldSumsStreams.{own-flags}
 use Rattle.history_model.proofs.LinksLost.{quiet-lost}
 use Rattle.history_model.proofs.LinksMail.{admitted-mail, carried-mail, carried-outside}
 use Rattle.history_model.proofs.LinksSettled.{settled}
+use Rattle.history_model.proofs.LinksSums.{tally-sum_by}
+use Rattle.history_model.proofs.SoundnessBounds.{carries_other, counts_other, creations-given, sendings-sent}
+use Rattle.history_model.proofs.SoundnessTold.{is_receipt, is_release}
 use Rattle.history_model.proofs.CompletenessMail.{quiet-carried, quiet-takes}
-use Rattle.history_model.proofs.CompletenessTold.{quiet-flags, quiet-told}
+use Rattle.history_model.proofs.CompletenessTold.{flags-told, quiet-told}
 
 -- the nodes that are lost at m
 abbrev pub lost_at : Cluster → ℕ → List Event → ℕ → Bool
 lost_at cl m h = is_lost cl (folded cl m h)
-
--- a pair names its owner
-created-names : (b a : Actor) (x : Fact) → is_created b a x ≡ true → names b x ≡ true
-created-names b a (created c d) pass = or_left (same_actor c b) (same_actor d b) (and_true (same_actor c b) (same_actor d a) pass).0
-created-names b a _ pass = absurd (false≢true pass)
 
 -- the facts with an actor's flags name it
 last_flags-named : (a : Actor) (xs : List Fact) (g : Flags) → last_flags a xs ≡ Some g → (x : Fact) × IsAmong x xs × (names a x ≡ true)
@@ -69,33 +67,34 @@ module _ (cl : Cluster) (m : ℕ) (h : List Event) (legal : IsLegal cl h) (here 
   sender-up x among = not_lost-up x.from.node (born-on_node cl h legal x.from (sent-born cl h legal x among).0)
 
   -- what actors on nodes that are not lost noted is told
-  outside-told : (t : Note → Bool) → (x : Note) → (not (lost_at cl m h x.by.node) && t x) ≡ true → IsTrue (is_born x.by h) → IsTrue (is_up x.by.node h)
-  outside-told t x pass born =
-      not_lost-up x.by.node (born-on_node cl h legal x.by born) (not_true (lost_at cl m h x.by.node) (and_true (not (lost_at cl m h x.by.node)) (t x) pass).0)
+  outside-told : (t : Note → Bool) → told_sum cl (told_cut cl (cut_at cl m h) h) (λ x. not (lost_at cl m h x.by.node) && t x) h ≡ noted_sum cl (λ x. not (lost_at cl m h x.by.node) && t x) h
+  outside-told t =
+      quiet-told cl m h legal quiet (λ x. not (lost_at cl m h x.by.node) && t x)
+      (λ e p x among pass born. not_lost-up x.by.node (born-on_node cl h legal x.by born) (not_true (lost_at cl m h x.by.node) (and_true (not (lost_at cl m h x.by.node)) (t x) pass).0))
 
   received-all : (a : Actor) → IsTrue (is_up a.node h) → received_count cl (folded cl m h) a ≡ takes a h
   received-all a up =
       received-told cl h (cut_at cl m h) a legal
-      ∙ quiet-told cl m h legal quiet (λ x. is_received a x.fact) (λ e p x among pass _. subst (λ (b : Actor). IsTrue (is_up b.node h)) (sym (noter-received cl e p a x among pass)) up)
+      ∙ quiet-told cl m h legal quiet (is_receipt a) (λ e p x among pass _. subst (λ (b : Actor). IsTrue (is_up b.node h)) (sym (noter-received cl e p a x among pass)) up)
       ∙ received-noted cl h a
 
   released-all : (b a : Actor) → IsTrue (is_up b.node h) → released_count cl (folded cl m h) b a ≡ gave b a h
   released-all b a up =
       released-told cl h (cut_at cl m h) b a legal
-      ∙ quiet-told cl m h legal quiet (λ x. is_released b a x.fact) (λ e p x among pass _. subst (λ (c : Actor). IsTrue (is_up c.node h)) (sym (noter-released cl e p b a x among pass)) up)
+      ∙ quiet-told cl m h legal quiet (is_release b a) (λ e p x among pass _. subst (λ (c : Actor). IsTrue (is_up c.node h)) (sym (noter-released cl e p b a x among pass)) up)
       ∙ released-noted cl h b a
 
-  told-all_sent : (a : Actor) → told_count cl (lost_at cl m h) (folded cl m h) a ≡ tally (λ x. not (lost_at cl m h x.from.node) && is_to a x) (all_sent h)
-  told-all_sent a =
+  sent-all : (a : Actor) → told_count cl (lost_at cl m h) (folded cl m h) a ≡ sum_by (counts_other (lost_at cl m h)) (filter (is_to a) (all_sent h))
+  sent-all a =
       sent-told cl h (cut_at cl m h) (lost_at cl m h) a legal
-      ∙ quiet-told cl m h legal quiet (λ x. not (lost_at cl m h x.by.node) && is_sent_to a x.fact) (λ e p x among pass born. outside-told (λ x. is_sent_to a x.fact) x pass born)
-      ∙ sent-noted cl h (λ n. not (lost_at cl m h n)) a
+      ∙ outside-told (λ x. is_sent_to a x.fact)
+      ∙ sendings-sent cl h (lost_at cl m h) a
 
-  created-all : (b a : Actor) → lost_at cl m h a.node ≡ false → created_count cl (lost_at cl m h) (folded cl m h) b a ≡ gifts cl b a h + sum_by (carries_from (λ n. not (lost_at cl m h n)) a) (filter (is_to b) (all_sent h))
+  created-all : (b a : Actor) → lost_at cl m h a.node ≡ false → created_count cl (lost_at cl m h) (folded cl m h) b a ≡ gifts cl b a h + sum_by (carries_other (lost_at cl m h) a) (filter (is_to b) (all_sent h))
   created-all b a out =
       created-told cl h (cut_at cl m h) (lost_at cl m h) b a legal
-      ∙ quiet-told cl m h legal quiet (λ x. not (lost_at cl m h x.by.node) && is_created b a x.fact) (λ e p x among pass born. outside-told (λ x. is_created b a x.fact) x pass born)
-      ∙ created-noted cl h (λ n. not (lost_at cl m h n)) b a (ap not out)
+      ∙ outside-told (λ x. is_created b a x.fact)
+      ∙ creations-given cl h (lost_at cl m h) b a out
 
   -- ---- the members of a quiet set on nodes that are up
 
@@ -114,7 +113,7 @@ module _ (cl : Cluster) (m : ℕ) (h : List Event) (legal : IsLegal cl h) (here 
             let noted = told-noted cl (told_cut cl (cut_at cl m h) h) test h in
             let found = noted-born cl h legal test (omega (arith, more, none, counted, noted)) in
             let created_b = (and_true (not (lost found.0.by.node)) (is_created b a found.0.fact) found.1).1 in
-            born-on_node cl h legal b (found.2.1 b (created-names b a found.0.fact created_b)))
+            born-on_node cl h legal b (found.2.1 b (created-names b a found.0.fact created_b).0))
       ]
 
   -- a member on a node that is up took all that was told or admitted for it
@@ -123,10 +122,11 @@ module _ (cl : Cluster) (m : ℕ) (h : List Event) (legal : IsLegal cl h) (here 
       let below = born-on_node cl h legal a (set.born a member) in
       let lost = lost_at cl m h in
       let received = received-all a up in
-      let told = told-all_sent a in
+      let sent = sent-all a in
       let admitted = admitted-mail cl h (cut_at cl m h) lost legal (settled cl h legal (cut_at cl m h)) a below (up-not_lost a.node below up) in
+      let lost_mail = tally-sum_by (λ (x : Message). lost x.from.node) (mail a h) in
       let took = quiet-takes cl m h legal quiet lost sender-up a up (λ x live to. set.no_mail x live (subst (λ b. IsAmong b q) (sym to) member)) in
-      omega (arith, received, told, admitted, took)
+      omega (arith, received, sent, admitted, lost_mail, took)
 
   -- who has a positive edge to such a member is one too, unless its node is lost
   member-owner : (q : List Actor) → IsQuietSet cl h q → (b a : Actor) → IsAmong a q → IsTrue (is_up a.node h) → has_edge cl (lost_at cl m h) (folded cl m h) b a ≡ true → lost_at cl m h b.node ≡ false → IsAmong b q × IsTrue (is_up b.node h)
@@ -148,7 +148,7 @@ module _ (cl : Cluster) (m : ℕ) (h : List Event) (legal : IsLegal cl h) (here 
       let f = folded cl m h in
       let lost = lost_at cl m h in
       let below = born-on_node cl h legal a (set.born a member) in
-      let flags = quiet-flags cl m h legal quiet a (set.born a member) up in
+      let flags = flags-told cl m h legal quiet a (set.born a member) up in
       let own : own_flags f a ≡ Some flags.0 = own-flags cl h a (cut_at cl m h a.node) ∙ flags.1 in
       let named = last_flags-named a (delta_facts (f a.node)) flags.0 own in
       let known = (known-named cl f a).1 (a.node, below, named.0, delta-notice named.0 (f a.node) named.1, named.2) in

@@ -12,15 +12,17 @@ use Rattle.history_model.specs.Held.{carried}
 use Rattle.history_model.specs.State.{is_up}
 use Rattle.history_model.specs.Legal.{IsLegal}
 use Rattle.history_model.specs.Quiescent.{IsOnLink, IsLive, IsQuietPoint}
-use Rattle.history_model.proofs.Basics.{and_true, not_true, same_actor-refl}
+use Rattle.history_model.proofs.Basics.{not_true}
 use Rattle.history_model.proofs.Sums.{all_sent}
 use Rattle.history_model.proofs.AccountsBirths.{mail-among, message_at-among, sent-among, waiting-among}
+use Rattle.history_model.proofs.AccountsGrowth.{carried-append}
 use Rattle.history_model.proofs.AccountsMail.{mail-all}
 use Rattle.history_model.proofs.AccountsNotes.{carries_from}
 use Rattle.history_model.proofs.AccountsTaken.{takes-mail}
 use Rattle.history_model.proofs.LinksSettled.{closed-crashed}
-use Rattle.history_model.proofs.LinksSums.{sum_by-filter, tally-sum_by}
-use Rattle.history_model.proofs.StabilityHeld.{tally-none}
+use Rattle.history_model.proofs.SoundnessBounds.{carried-split, carries_other, counts_other, mail-split}
+use Rattle.history_model.proofs.SoundnessTold.{counts_lost}
+use Rattle.history_model.proofs.StabilityHeld.{tally-absent}
 
 -- ---- what lists count
 
@@ -34,42 +36,13 @@ drop-all n [] none = omega arith
 drop-all zero (x ∷ xs) none = absurd (none x (inl refl))
 drop-all (suc n) (x ∷ xs) none = let later = drop-all n xs none in omega arith
 
-carried-append : (a : Actor) (xs ys : List Message) → carried a (xs ++ ys) ≡ carried a xs + carried a ys
-carried-append a [] ys = omega arith
-carried-append a (x ∷ xs) ys = let later = carried-append a xs ys in omega arith
-
+-- messages that carry none carry none together
 carried-none : (a : Actor) (xs : List Message) → ((m : Message) → IsAmong m xs → ¬ IsAmong a m.refs) → carried a xs ≡ 0
 carried-none a [] none = refl
 carried-none a (x ∷ xs) none =
-    let here = tally-none a x.refs (none x (inl refl)) in
+    let here = tally-absent a x.refs (none x (inl refl)) in
     let later = carried-none a xs (λ m among. none m (inr among)) in
     omega arith
-
--- the references that messages carry are carried from chosen nodes or from others
-pub carried-split : (sel : ℕ → Bool) (a : Actor) (ms : List Message) → sum_by (carries_from (λ n. not (sel n)) a) ms + sum_by (carries_from sel a) ms ≡ carried a ms
-carried-split sel a [] = refl
-carried-split sel a (m ∷ ms) =
-    let others = sum_by-cons (carries_from (λ n. not (sel n)) a) m ms in
-    let chosen = sum_by-cons (carries_from sel a) m ms in
-    let later = carried-split sel a ms in
-    let here = one_of (sel m.from.node) (tally (same_actor a) m.refs) in
-    omega arith
-  where
-    one_of : (v : Bool) (n : ℕ) → (if not v then n else 0) + (if v then n else 0) ≡ n
-    one_of true n = omega arith
-    one_of false n = omega arith
-
--- the messages to a come from chosen nodes or from others
-pub length-split : (sel : ℕ → Bool) (a : Actor) (ms : List Message) → ((m : Message) → IsAmong m ms → m.to ≡ a) → tally (λ m. not (sel m.from.node) && is_to a m) ms + tally (λ m. sel m.from.node) ms ≡ length ms
-length-split sel a [] to = omega arith
-length-split sel a (m ∷ ms) to =
-    let later = length-split sel a ms (λ x among. to x (inr among)) in
-    let here : is_to a m ≡ true = subst (λ b. same_actor m.to b ≡ true) (to m (inl refl)) (same_actor-refl m.to) in
-    let others = tally (λ x. not (sel x.from.node) && is_to a x) ms in
-    let chosen = tally (λ x. sel x.from.node) ms in
-    let Split : Bool → Type 0 = λ v. cond (not (sel m.from.node) && v) (others + 1) others + cond (sel m.from.node) (chosen + 1) chosen ≡ length ms + 1 in
-    let split : Split true = elim (sel m.from.node) as (λ v. cond (not v && true) (others + 1) others + cond v (chosen + 1) chosen ≡ length ms + 1) [ true ↦ omega arith | false ↦ omega arith ] in
-    subst Split (sym here) split ∙ add-one (length ms)
 
 -- ---- mail at a quiet point
 
@@ -95,6 +68,10 @@ some_chosen : (v : Bool) (n : ℕ) → 0 < cond v n 0 → v ≡ true
 some_chosen true n some = refl
 some_chosen false n some = absurd (omega arith)
 
+none_chosen : (v : Bool) (n : ℕ) → n ≡ 0 → cond v n 0 ≡ 0
+none_chosen true n e = e
+none_chosen false n e = refl
+
 -- what waits for an actor on a node that is up is live
 waiting-live : (h : List Event) (b : Actor) → IsTrue (is_up b.node h) → (x : Message) → IsAmong x (waiting b h) → IsLive h x × (x.to ≡ b)
 waiting-live h b up x waits =
@@ -104,37 +81,28 @@ waiting-live h b up x waits =
     ((there.0, inl there.1), to)
 
 -- where no message for a is live, a took as many as nodes that are up sent to it and as it admitted from others
-pub quiet-takes : (cl : Cluster) (m : ℕ) (h : List Event) → IsLegal cl h → IsQuietPoint cl m h → (lost : ℕ → Bool) → ((x : Message) → IsAmong x (all_sent h) → lost x.from.node ≡ false → IsTrue (is_up x.from.node h)) → (a : Actor) → IsTrue (is_up a.node h) → ((x : Message) → IsLive h x → x.to ≡ a → ⊥) → takes a h ≡ tally (λ x. not (lost x.from.node) && is_to a x) (all_sent h) + tally (λ x. lost x.from.node) (mail a h)
+pub quiet-takes : (cl : Cluster) (m : ℕ) (h : List Event) → IsLegal cl h → IsQuietPoint cl m h → (lost : ℕ → Bool) → ((x : Message) → IsAmong x (all_sent h) → lost x.from.node ≡ false → IsTrue (is_up x.from.node h))
+    → (a : Actor) → IsTrue (is_up a.node h) → ((x : Message) → IsLive h x → x.to ≡ a → ⊥) → takes a h ≡ sum_by (counts_other lost) (filter (is_to a) (all_sent h)) + sum_by (counts_lost lost) (mail a h)
 quiet-takes cl m h legal quiet lost senders a up none =
-    let test : Message → Bool = λ x. not (lost x.from.node) && is_to a x in
-    let w : Message → ℕ = λ x. cond (test x) 1 0 in
-    let to : (x : Message) → IsAmong x (mail a h) → x.to ≡ a = λ x among. (mail-among a h x among).1 in
-    let from_up : (x : Message) → IsAmong x (all_sent h) → 0 < w x → IsTrue (is_up x.from.node h) = λ x among some.
-        senders x among (not_true (lost x.from.node) (and_true (not (lost x.from.node)) (is_to a x) (some_chosen (test x) 1 some)).0) in
-    let all = quiet-mail cl m h legal quiet a up w from_up (λ x live toward. absurd (none x live toward)) in
-    let sent_to_a : sum_by w (filter (is_to a) (all_sent h)) ≡ tally test (all_sent h) =
-        sum_by-filter w (is_to a) (all_sent h) (λ x other. ap (λ v. cond v 1 0) (and_right (not (lost x.from.node)) (is_to a x) other)) ∙ sym (tally-sum_by test (all_sent h)) in
-    let mailed = tally-sum_by test (mail a h) in
-    let split = length-split lost a (mail a h) to in
+    let from_up : (x : Message) → IsAmong x (all_sent h) → 0 < counts_other lost x → IsTrue (is_up x.from.node h) = λ x among some.
+        senders x among (not_true (lost x.from.node) (some_chosen (not (lost x.from.node)) 1 some)) in
+    let all = quiet-mail cl m h legal quiet a up (counts_other lost) from_up (λ x live to. absurd (none x live to)) in
+    let split = mail-split lost (mail a h) in
     let most = takes-mail cl h legal a in
-    let waits_none : (x : Message) → ¬ IsAmong x (waiting a h) = λ x waits. (let found = waiting-live h a up x waits in none x found.0 found.1) in
-    let least = drop-all (takes a h) (mail a h) waits_none in
-    omega (arith, all, sent_to_a, mailed, split, most, least)
+    let least = drop-all (takes a h) (mail a h) (λ x waits. (let found = waiting-live h a up x waits in none x found.0 found.1)) in
+    omega (arith, all, split, most, least)
 
--- where no live message carries a to b, what b took carries as many references to a as nodes that are up sent and as b admitted from others
-pub quiet-carried : (cl : Cluster) (m : ℕ) (h : List Event) → IsLegal cl h → IsQuietPoint cl m h → (lost : ℕ → Bool) → ((x : Message) → IsAmong x (all_sent h) → lost x.from.node ≡ false → IsTrue (is_up x.from.node h)) → (b a : Actor) → IsTrue (is_up b.node h) → ((x : Message) → IsLive h x → ¬ IsAmong a x.refs) → carried a (taken b h) ≡ sum_by (carries_from (λ n. not (lost n)) a) (filter (is_to b) (all_sent h)) + sum_by (carries_from lost a) (mail b h)
+-- where no live message carries a to b, what b took carries as many references to a as nodes that are up sent it and as
+-- it admitted from others
+pub quiet-carried : (cl : Cluster) (m : ℕ) (h : List Event) → IsLegal cl h → IsQuietPoint cl m h → (lost : ℕ → Bool) → ((x : Message) → IsAmong x (all_sent h) → lost x.from.node ≡ false → IsTrue (is_up x.from.node h))
+    → (b a : Actor) → IsTrue (is_up b.node h) → ((x : Message) → IsLive h x → ¬ IsAmong a x.refs) → carried a (taken b h) ≡ sum_by (carries_other lost a) (filter (is_to b) (all_sent h)) + sum_by (carries_from lost a) (mail b h)
 quiet-carried cl m h legal quiet lost senders b a up none =
-    let w = carries_from (λ n. not (lost n)) a in
-    let from_up : (x : Message) → IsAmong x (all_sent h) → 0 < w x → IsTrue (is_up x.from.node h) = λ x among some.
+    let from_up : (x : Message) → IsAmong x (all_sent h) → 0 < carries_other lost a x → IsTrue (is_up x.from.node h) = λ x among some.
         senders x among (not_true (lost x.from.node) (some_chosen (not (lost x.from.node)) (tally (same_actor a) x.refs) some)) in
-    let nothing : (x : Message) → IsLive h x → x.to ≡ b → w x ≡ 0 = λ x live _.
-        none_chosen (not (lost x.from.node)) (tally (same_actor a) x.refs) (tally-none a x.refs (none x live)) in
-    let all = quiet-mail cl m h legal quiet b up w from_up nothing in
+    let nothing : (x : Message) → IsLive h x → x.to ≡ b → carries_other lost a x ≡ 0 = λ x live _.
+        none_chosen (not (lost x.from.node)) (tally (same_actor a) x.refs) (tally-absent a x.refs (none x live)) in
+    let all = quiet-mail cl m h legal quiet b up (carries_other lost a) from_up nothing in
     let split = carried-split lost a (mail b h) in
     let parts = ap (carried a) (sym (take-append-drop (takes b h) (mail b h))) ∙ carried-append a (taken b h) (waiting b h) in
     let waits = carried-none a (waiting b h) (λ x among. none x (waiting-live h b up x among).0) in
     omega (arith, all, split, parts, waits)
-  where
-    none_chosen : (v : Bool) (n : ℕ) → n ≡ 0 → cond v n 0 ≡ 0
-    none_chosen true n e = e
-    none_chosen false n e = refl

@@ -186,8 +186,8 @@ quiet-told cl m h legal quiet t up =
     told-within cl (told_cut cl (cut_at cl m h) h) t h below [] h refl
 
 -- and the flags of such an actor are as at its last flush
-pub quiet-flags : (cl : Cluster) (m : ℕ) (h : List Event) → IsLegal cl h → IsQuietPoint cl m h → (a : Actor) → IsTrue (is_born a h) → IsTrue (is_up a.node h) → (g : Flags) × (flags_cut a (publish_cut cl a.node (cut_at cl m h a.node) h) h ≡ Some g) × (g.busy ≡ is_busy a h) × (g.root ≡ is_root a h)
-quiet-flags cl m h legal quiet a born up =
+pub flags-told : (cl : Cluster) (m : ℕ) (h : List Event) → IsLegal cl h → IsQuietPoint cl m h → (a : Actor) → IsTrue (is_born a h) → IsTrue (is_up a.node h) → (g : Flags) × (flags_cut a (publish_cut cl a.node (cut_at cl m h a.node) h) h ≡ Some g) × (g.busy ≡ is_busy a h) × (g.root ≡ is_root a h)
+flags-told cl m h legal quiet a born up =
     let told = quiet-actor cl m h legal quiet a born up in
     let flushed = as_flushed (flushed_flags a h) (flags_at a h) told.flags in
     (flushed.0, flags-flushed a (publish_cut cl a.node (cut_at cl m h a.node) h) h told.flushes ∙ flushed.1, flushed.2, flushed.3)

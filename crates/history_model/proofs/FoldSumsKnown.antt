@@ -166,7 +166,8 @@ out-notice : (b : Bool) (x : Fact) (ns : List Notice) → IsAmong x (cond b [] (
 out-notice true x ns h = absurd h
 out-notice false x ns h = delta-notice x ns h
 
-created-names : (b a : Actor) (x : Fact) → is_created b a x ≡ true → (names b x ≡ true) × (names a x ≡ true)
+-- a pair names both its actors
+pub created-names : (b a : Actor) (x : Fact) → is_created b a x ≡ true → (names b x ≡ true) × (names a x ≡ true)
 created-names b a (created c d) t =
     let both = and_true (same_actor c b) (same_actor d a) t in
     ((two-named b c d).1 (inl (sym (same_actor-equal c b both.0))), (two-named a c d).1 (inr (inl (sym (same_actor-equal d a both.1)))))

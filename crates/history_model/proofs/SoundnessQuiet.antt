@@ -24,6 +24,7 @@ use Rattle.history_model.proofs.AccountsNotes.{carries_from, created-noted}
 use Rattle.history_model.proofs.AccountsTaken.{takes-mail, gave-got}
 use Rattle.history_model.proofs.SoundnessSums.{carried-sum, sum_by-member, tally-member}
 use Rattle.history_model.proofs.SoundnessTold.{is_creation, is_sending, counts_lost, IsToldSet, AreTold, received-below, released-below}
+use Rattle.history_model.proofs.FoldSumsKnown.{created-names}
 use Rattle.history_model.proofs.SoundnessBounds.{carries_other, counts_other, carried-split, creations-given, mail-split, no_hold, no_take, sendings-sent, taken-carried}
 use Rattle.history_model.proofs.SoundnessStep.{told-always}
 
@@ -40,10 +41,6 @@ live-born cl h legal m live =
         (sent-born cl h legal m sent.0).1)
     ]
 
-created-owner : (b a : Actor) (f : Fact) → is_created b a f ≡ true → IsTrue (names b f)
-created-owner b a (created c d) t = ap (λ v. v || same_actor d b) (and_true (same_actor c b) (same_actor d a) t).0
-created-owner b a _ t = absurd (false≢true t)
-
 -- who got a reference is born
 got-born : (cl : Cluster) (h : List Event) → IsLegal cl h → (b a : Actor) → 0 < got cl b a h → IsTrue (is_born b h)
 got-born cl h legal b a some =
@@ -51,7 +48,7 @@ got-born cl h legal b a some =
     let noted = created-noted cl h (λ _. true) b a refl in
     let in_mail : carried a (taken b h) ≤ sum_by weight (mail b h) = omega (arith, taken-carried b a h, carried-sum a (mail b h)) in
     let found = noted-born cl h legal (λ x. is_created b a x.fact) (omega (arith, some, noted, in_mail, mail-sent cl h legal b weight)) in
-    found.2.1 b (created-owner b a found.0.fact found.1)
+    found.2.1 b (created-names b a found.0.fact found.1).0
 
 -- a node that is up is not lost
 up-kept : (cl : Cluster) (c : ℕ → ℕ) (lost : ℕ → Bool) (h : List Event) → AreSettled cl c lost h → (n : ℕ) → IsTrue (is_up n h) → lost n ≡ false

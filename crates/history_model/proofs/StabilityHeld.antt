@@ -17,6 +17,7 @@ use Rattle.history_model.specs.Quiescent.{IsQuietSet}
 use Rattle.history_model.proofs.Basics.{legal-kept, same_actor-equal}
 use Rattle.history_model.proofs.AccountsBirths.{newborn-not_born}
 use Rattle.history_model.proofs.AccountsTaken.{takes-mail}
+use Rattle.history_model.proofs.FoldSumsNotes.{tally-none}
 use Rattle.history_model.proofs.StabilityMessages.{tally-more}
 use Rattle.history_model.proofs.StabilityState.{some_waits, take-live}
 
@@ -59,12 +60,9 @@ gifts-next cl _ p q legal quiet b a member = refl
 -- ---- what taken messages carry
 
 -- an actor that is not among the references is not counted there
-pub tally-none : (a : Actor) (xs : List Actor) → (IsAmong a xs → ⊥) → tally (same_actor a) xs ≡ 0
-tally-none a [] none = refl
-tally-none a (x ∷ xs) none =
-    let rest = tally-none a xs (λ later. none (inr later)) in
-    let differ = false_from_ne_true (same_actor a x) (λ s. none (inl (same_actor-equal a x s))) in
-    ap (λ v. if v then tally (same_actor a) xs + 1 else tally (same_actor a) xs) differ ∙ rest
+pub tally-absent : (a : Actor) (xs : List Actor) → ¬ IsAmong a xs → tally (same_actor a) xs ≡ 0
+tally-absent a xs none =
+    tally-none (same_actor a) xs (λ x among same. none (subst (λ y. IsAmong y xs) (sym (same_actor-equal a x same)) among))
 
 -- the next message that is taken is the first that waits
 carried-take_suc : (a : Actor) (n : ℕ) (xs : List Message) (m : Message) (ms : List Message) → drop n xs ≡ m ∷ ms → carried a (take (suc n) xs) ≡ carried a (take n xs) + tally (same_actor a) m.refs
@@ -83,7 +81,7 @@ carried-next : (cl : Cluster) (e : Event) (p : List Event) (q : List Actor) → 
 carried-next cl (Take x) p q legal quiet b a member =
     let some = some_waits (waiting x p) (legal-kept cl (Take x) p legal).1.1.1.0 in
     let live = take-live cl x p legal some.0 some.1 some.2 in
-    let none = tally-none a some.0.refs (quiet.not_carried some.0 live.0 a member) in
+    let none = tally-absent a some.0.refs (quiet.not_carried some.0 live.0 a member) in
     let Same : ℕ → Type 0 = λ n. carried a (take n (mail b p)) ≡ carried a (taken b p) in
     cond_both (same_actor x b) (takes b p + 1) (takes b p) Same
     (λ s.

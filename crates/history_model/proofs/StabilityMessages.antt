@@ -14,8 +14,9 @@ use Rattle.history_model.specs.Messages.{Message, sent, message_at, is_admit, is
 use Rattle.history_model.specs.State.{is_up}
 use Rattle.history_model.specs.Legal.{IsLegal}
 use Rattle.history_model.specs.Quiescent.{IsOnLink, IsLive}
-use Rattle.history_model.proofs.Basics.{and_true, eqb-equal, legal-kept, not_true, same_actor-equal}
+use Rattle.history_model.proofs.Basics.{and_true, eqb-equal, legal-kept, not_true, tally-append}
 use Rattle.history_model.proofs.AccountsBirths.{message_at-among, sent-among}
+use Rattle.history_model.proofs.AccountsCopies.{same_number}
 use Rattle.history_model.proofs.AccountsGrowth.{closed-stays, up-before}
 use Rattle.history_model.proofs.AccountsTaken.{takes-mail}
 
@@ -89,7 +90,7 @@ admitted-source cl _ p legal m among = absurd among
 
 -- a count does not fall
 pub tally-more : {X : Type 0} (test : X → Bool) (x : X) (xs : List X) → tally test xs ≤ tally test (x ∷ xs)
-tally-more test x xs = cond_both (test x) (tally test xs + 1) (tally test xs) (λ n. tally test xs ≤ n) (λ _. omega arith) (λ _. omega arith)
+tally-more test x xs = omega (arith, tally-append test (x ∷ []) xs)
 
 -- a place of a list with one more item at its end is a place of the list, or has that item
 slice_get-push : {A : Type 0} (xs : List A) (x : A) (k : ℕ) → ((k < length xs) × (slice_get (xs ++ x ∷ []) k ≡ slice_get xs k)) ⊎ ((y : A) → option_to_list (slice_get (xs ++ x ∷ []) k) ≡ y ∷ [] → y ≡ x)
@@ -155,11 +156,7 @@ on_link-next cl (Repeat x y n) p legal m on =
     let had = (Decides-ltb 0 (copies x y n p)).0 (legal-kept cl (Repeat x y n) p legal).1.1.1.1.1.0 in
     let Had : ℕ → Type 0 = λ r. 0 < (sends + r) - gone → 0 < copies s d k p in
     let repeated : ((x == s) && ((y == d) && (n == k))) ≡ true → Had (tally (is_repeat s d k) p + 1) = λ hit _.
-        let first = and_true (x == s) ((y == d) && (n == k)) hit in
-        let second = and_true (y == d) (n == k) first.1 in
-        subst (λ z. 0 < copies s d z p) (eqb-equal n k second.1)
-        (subst (λ z. 0 < copies s z n p) (eqb-equal y d second.0)
-        (subst (λ z. 0 < copies z y n p) (eqb-equal x s first.0) had)) in
+        same_number x y n s d k hit (λ i j l. 0 < copies i j l p) had in
     let some = cond_both ((x == s) && ((y == d) && (n == k))) (tally (is_repeat s d k) p + 1) (tally (is_repeat s d k) p) Had repeated (λ _ some. some) on.4 in
     inl (on_link-before (Repeat x y n) p m on on.1 some)
 on_link-next cl e p legal m on =
