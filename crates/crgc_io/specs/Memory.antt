@@ -1,5 +1,6 @@
 -- What contracts see of a source and a sink over memory.
-use Rattle.std.specs.Prelude.{ℕ, ◌+◌, min, Bool, if◌then◌else◌, List}
+use Rattle.std.specs.Prelude.{ℕ, Bool, if◌then◌else◌, List}
+use Rattle.crgc_io.specs.Fault.{raised}
 
 -- how many bytes a call moves at most, the numbers of the calls that are to fail, how many calls there were, and how
 -- many of them failed
@@ -8,10 +9,6 @@ pub record Calls : Type 0 where
   pub failing : List ℕ
   pub made : ℕ
   pub faults : ℕ
-
--- one more, up to the last value of a count, where it stands still
-abbrev pub raised : ℕ → ℕ
-raised count = min (count + 1) 18446744073709551615
 
 -- the calls after one more, which failed or did not
 abbrev pub after_call : Bool → Calls → Calls

@@ -1,5 +1,9 @@
 //! The program's edges: std's readers and writers as a source and a sink.
-ghost use Rattle.std.specs.Prelude.{◌≡◌, None};
+ghost use Rattle.std.specs.Prelude.{◌≡◌, ◌<◌, ◌≤◌, None, IfOk, OnErr, if◌then◌else◌, is_err, length};
+ghost use Rattle.std.specs.Io.{ReadsAtMost, WritesAtMost};
+ghost use Rattle.std.specs.Io.KnownBytes.{ReadConsumes, WriteAppends};
+ghost use Rattle.crgc_io.specs.Edges.{source_inner, source_faults, sink_inner, sink_faults};
+ghost use Rattle.crgc_io.specs.Fault.{CountRose, raised};
 
 use crate::traits::{Failed, Sink, Source};
 use std::io::{Read, Write};
@@ -15,21 +19,29 @@ pub struct StdSource<R> {
 impl<R: Read> StdSource<R> {
     /// The source over this reader, with no fault counted.
     pub fn new(inner: R) -> StdSource<R>
-        ensures left { ⟦<StdSource<R> as Source>⟧.left result ≡ R.remaining inner }
-        ensures faults { ⟦<StdSource<R> as Source>⟧.faults result ≡ 0 }
+        ensures inner { source_inner result ≡ inner }
+        ensures faults { source_faults result ≡ 0 }
     {
         StdSource { inner, faults: 0 }
     }
 }
 
 impl<R: Read> Source for StdSource<R> {
-    ghost left = { λ s. R.remaining s.inner };
+    ghost left = { λ s. R.remaining (source_inner s) };
 
     ghost given = { λ _. None };
 
-    ghost faults = { λ s. s.faults };
+    ghost faults = { source_faults };
 
-    fn read(&mut self, buf: &mut [u8]) -> Result<usize, Failed> {
+    fn read(&mut self, buf: &mut [u8]) -> Result<usize, Failed>
+        ensures bound { ReadsAtMost result buf.new }
+        ensures bytes { ReadConsumes (R.remaining (source_inner self.old))
+            (R.remaining (source_inner self.new)) result buf.new }
+        ensures never_falls { source_faults self.old ≤ source_faults self.new }
+        ensures failed { OnErr result (CountRose (source_faults self.old) (source_faults self.new)) }
+        ensures counts { source_faults self.new
+            ≡ (if is_err result then raised (source_faults self.old) else source_faults self.old) }
+    {
         match self.inner.read(buf) {
             Ok(n) => Ok(n),
             Err(_) => {
@@ -51,19 +63,28 @@ pub struct StdSink<W> {
 impl<W: Write> StdSink<W> {
     /// The sink over this writer, with no fault counted.
     pub fn new(inner: W) -> StdSink<W>
-        ensures held { ⟦<StdSink<W> as Sink>⟧.held result ≡ W.contents inner }
-        ensures faults { ⟦<StdSink<W> as Sink>⟧.faults result ≡ 0 }
+        ensures inner { sink_inner result ≡ inner }
+        ensures faults { sink_faults result ≡ 0 }
     {
         StdSink { inner, faults: 0 }
     }
 }
 
 impl<W: Write> Sink for StdSink<W> {
-    ghost held = { λ s. W.contents s.inner };
+    ghost held = { λ s. W.contents (sink_inner s) };
 
-    ghost faults = { λ s. s.faults };
+    ghost faults = { sink_faults };
 
-    fn write(&mut self, piece: &[u8]) -> Result<usize, Failed> {
+    fn write(&mut self, piece: &[u8]) -> Result<usize, Failed>
+        ensures bound { WritesAtMost result piece.now }
+        ensures progress { IfOk result (λ n. 0 < length piece.now → 0 < n) }
+        ensures bytes { WriteAppends (W.contents (sink_inner self.old))
+            (W.contents (sink_inner self.new)) result piece.now }
+        ensures never_falls { sink_faults self.old ≤ sink_faults self.new }
+        ensures failed { OnErr result (CountRose (sink_faults self.old) (sink_faults self.new)) }
+        ensures counts { sink_faults self.new
+            ≡ (if is_err result then raised (sink_faults self.old) else sink_faults self.old) }
+    {
         match self.inner.write(piece) {
             Ok(n) if n > 0 || piece.is_empty() => Ok(n),
             _ => {

@@ -6,6 +6,8 @@ mod calls;
 mod edges;
 mod gate;
 mod memory;
+#[cfg(test)]
+mod tests;
 mod traits;
 mod whole;
 

@@ -1,5 +1,5 @@
 -- What one read gives is the front of what was left.
-use Rattle.std.proofs.Common.{◌≡◌, ◌++◌, arith, length, take, drop, sym, ap, ◌∙◌}
+use Rattle.std.proofs.Common.{◌++◌, arith, length, take, drop, sym, ap, ◌∙◌}
 use Rattle.crgc_io.proofs.ReadingLemmas.{IsCopied, left_after_copy, given_after_copy, none_after_copy}
 use Rattle.crgc_io.proofs.memory.MemorySourceSource.read.Goals as goal
 
