@@ -8,8 +8,8 @@ ghost use Rattle.crgc_io.specs.Fault.{CountRose, raised};
 use crate::traits::{Failed, Sink, Source};
 use std::io::{Read, Write};
 
-/// A source over a reader of std. Each error of a read counts as a fault. It tells the bytes left where the reader's
-/// contract tells them.
+/// A source over a reader of std. Each error of a read counts as a fault. It tells the bytes left
+/// where the reader's contract tells them.
 #[derive(Drop)]
 pub struct StdSource<R> {
     inner: R,
@@ -38,9 +38,10 @@ impl<R: Read> Source for StdSource<R> {
         ensures bytes { ReadConsumes (R.remaining (source_inner self.old))
             (R.remaining (source_inner self.new)) result buf.new }
         ensures never_falls { source_faults self.old ≤ source_faults self.new }
-        ensures failed { OnErr result (CountRose (source_faults self.old) (source_faults self.new)) }
-        ensures counts { source_faults self.new
-            ≡ (if is_err result then raised (source_faults self.old) else source_faults self.old) }
+        ensures failed { OnErr result
+            (CountRose (source_faults self.old) (source_faults self.new)) }
+        ensures counts { let before = source_faults self.old in
+            source_faults self.new ≡ (if is_err result then raised before else before) }
     {
         match self.inner.read(buf) {
             Ok(n) => Ok(n),
@@ -52,8 +53,9 @@ impl<R: Read> Source for StdSource<R> {
     }
 }
 
-/// A sink over a writer of std. Each error of a write counts as a fault, and so does a write that takes nothing of a
-/// piece that is not empty. It tells the bytes held where the writer's contract tells them.
+/// A sink over a writer of std. Each error of a write counts as a fault, and so does a write that
+/// takes nothing of a piece that is not empty. It tells the bytes held where the writer's contract
+/// tells them.
 #[derive(Drop)]
 pub struct StdSink<W> {
     inner: W,
@@ -82,8 +84,8 @@ impl<W: Write> Sink for StdSink<W> {
             (W.contents (sink_inner self.new)) result piece.now }
         ensures never_falls { sink_faults self.old ≤ sink_faults self.new }
         ensures failed { OnErr result (CountRose (sink_faults self.old) (sink_faults self.new)) }
-        ensures counts { sink_faults self.new
-            ≡ (if is_err result then raised (sink_faults self.old) else sink_faults self.old) }
+        ensures counts { let before = sink_faults self.old in
+            sink_faults self.new ≡ (if is_err result then raised before else before) }
     {
         match self.inner.write(piece) {
             Ok(n) if n > 0 || piece.is_empty() => Ok(n),

@@ -1,5 +1,5 @@
-//! Where the program's bytes come from and go to: sources and sinks that count their faults, and gates at which the
-//! turns of actors begin.
+//! Where the program's bytes come from and go to: sources and sinks that count their faults, and
+//! gates at which the turns of actors begin.
 #![tactic(auto)]
 
 mod calls;
