@@ -25,9 +25,6 @@ pub mod StabilityState
 pub mod StabilityMessages
 pub mod StabilityHeld
 pub mod Stability
-pub mod CompletenessTold
-pub mod CompletenessMail
-pub mod Completeness
 pub mod SoundnessSums
 pub mod SoundnessTold
 pub mod SoundnessBounds
@@ -35,4 +32,7 @@ pub mod SoundnessStep
 pub mod SoundnessQuiet
 pub mod Soundness
 pub mod Supervision
+pub mod CompletenessTold
+pub mod CompletenessMail
+pub mod Completeness
 pub mod Stopped
