@@ -52,7 +52,7 @@ module _ {A : Type 0} where
   among-else true x xs among = absurd among
   among-else false x xs among = among
 
-each-map : {A B : Type 0} (P : B → Type 0) (f : A → B) (xs : List A) → Each (λ x. P (f x)) xs → Each P (map f xs)
+pub each-map : {A B : Type 0} (P : B → Type 0) (f : A → B) (xs : List A) → Each (λ x. P (f x)) xs → Each P (map f xs)
 each-map P f [] each = each-none P
 each-map P f (x ∷ xs) each = each-more P (f x) (map f xs) (each x (inl refl)) (each-map P f xs (λ y among. each y (inr among)))
 

@@ -21,3 +21,5 @@ pub mod LinksLost
 pub mod Supervision
 pub mod SoundnessTold
 pub mod SoundnessBounds
+pub mod StabilityState
+pub mod SoundnessStep
