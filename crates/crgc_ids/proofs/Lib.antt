@@ -1,4 +1,6 @@
 pub mod GreatestLaws
+mod LostNodesExamples
 pub mod LostNodesLaws
 pub mod MembersLaws
+pub mod NodesLaws
 pub mod RisingLaws

@@ -4,11 +4,14 @@ use Rattle.std.proofs.lemmas.Bool.{false≢true}
 use Rattle.std.proofs.lemmas.Bool.Decides.{Decides-eqb}
 use Rattle.std.specs.List.{filter, list_any}
 use Rattle.crgc_ids.specs.Greatest.{IsMonotone, greatest}
-use Rattle.crgc_ids.specs.LostNodes.{IsLostSet, has_link, has_node, is_cut_off, lost_nodes, nodes_below, removed_nodes}
+use Rattle.crgc_ids.specs.LostNodes.{IsLostSet, has_link, is_cut_off, lost_nodes, removed_nodes}
 use Rattle.crgc_ids.specs.Members.{IsAmong, IsPart}
+use Rattle.crgc_ids.specs.NodeFlags.{same_node}
+use Rattle.crgc_ids.specs.Nodes.{has_node, nodes_below}
 use Rattle.crgc_ids.specs.Rising.{IsRising}
 use Rattle.crgc_ids.proofs.GreatestLaws.{greatest-contains, greatest-filters, greatest-fit, greatest-part}
 use Rattle.crgc_ids.proofs.MembersLaws.{IsAmong-append_cases, IsAmong-append_left, IsAmong-append_right, IsAmong-filter, IsAmong-from_filter, IsAmong-from_range, IsAmong-range, list_all-members, list_all-true, list_any-member, list_any-true}
+use Rattle.crgc_ids.proofs.NodesLaws.{has_node-from_true, has_node-member}
 use Rattle.crgc_ids.proofs.RisingLaws.{IsRising-filter, IsRising-range}
 
 -- what one of two tests says, and what says it
@@ -24,14 +27,6 @@ and_both : (a b : Bool) → (a && b) ≡ true → (a ≡ true) × (b ≡ true)
 and_both true b t = (refl, t)
 and_both false b t = absurd (false≢true t)
 
-same : (k : ℕ) → eqb k k ≡ true
-same k = (Decides-eqb k k).1 refl
-
-node_of_test : (xs : List ℕ) (k : ℕ) → has_node xs k ≡ true → IsAmong k xs
-node_of_test xs k t =
-    let found = list_any-true (λ x. eqb k x) xs t in
-    subst (λ x. IsAmong x xs) (sym ((Decides-eqb k found.0).0 found.2)) found.1
-
 link_of_test : (links : List (ℕ × ℕ)) (s d : ℕ) → has_link links s d ≡ true → IsAmong (s, d) links
 link_of_test links s d t =
     let found = list_any-true (λ l. eqb s l.0 && eqb d l.1) links t in
@@ -44,7 +39,7 @@ is_cut_off-monotone : (n : ℕ) (links : List (ℕ × ℕ)) → IsMonotone (is_c
 is_cut_off-monotone n links xs ys s part t =
     list_all-members (λ d. has_node ys d || has_link links s d) (nodes_below n) (λ d m.
     elim (or_cases (has_node xs d) (has_link links s d) (list_all-true (λ k. has_node xs k || has_link links s k) d (nodes_below n) t m)) [
-      | inl inside ↦ ap (λ b. b || has_link links s d) (list_any-member (λ x. eqb d x) d ys (part d (node_of_test xs d inside)) (same d))
+      | inl inside ↦ ap (λ b. b || has_link links s d) (has_node-member ys d (part d (has_node-from_true xs d inside)))
       | inr linked ↦ or_right (has_node ys d) (has_link links s d) linked
     ])
 
@@ -57,7 +52,7 @@ removed_nodes-sources n links s = (
       let below = IsAmong-from_range s 0 n kept.0 in
       (omega arith, (found.0.1, subst (λ x. IsAmong (x, found.0.1) links) (sym ((Decides-eqb s found.0.0).0 found.2)) found.1)),
   λ h. IsAmong-filter (λ k. list_any (λ l. eqb k l.0) links) s (nodes_below n) (IsAmong-range s 0 n (omega arith) (omega arith))
-      (list_any-member (λ l. eqb s l.0) (s, h.1.0) links h.1.1 (same s)),
+      (list_any-member (λ l. eqb s l.0) (s, h.1.0) links h.1.1 (same_node s)),
 )
 
 -- the lost nodes are removed and cut off
@@ -71,7 +66,7 @@ lost_nodes-lost n links s h =
       source.1,
       λ d l outside.
           elim (or_cases (has_node (lost_nodes n links) d) (has_link links s d) (list_all-true (λ k. has_node (lost_nodes n links) k || has_link links s k) d (nodes_below n) cut_off (IsAmong-range d 0 n (omega arith) (omega arith)))) [
-            | inl inside ↦ absurd (outside (node_of_test (lost_nodes n links) d inside))
+            | inl inside ↦ absurd (outside (has_node-from_true (lost_nodes n links) d inside))
             | inr linked ↦ link_of_test links s d linked
           ],
     )
@@ -88,8 +83,8 @@ lost_nodes-greatest n links xs lost =
     let reached : Reached (has_node xs d) = elim (has_node xs d) as Reached [
       | true ↦ λ _. refl
       | false ↦ λ outside.
-          let link = (lost s h).2 d (omega arith) (λ inside. false≢true (sym outside ∙ list_any-member (λ x. eqb d x) d xs inside (same d))) in
-          list_any-member (λ l. eqb s l.0 && eqb d l.1) (s, d) links link (ap (λ b. b && eqb d d) (same s) ∙ same d)
+          let link = (lost s h).2 d (omega arith) (λ inside. false≢true (sym outside ∙ has_node-member xs d inside)) in
+          list_any-member (λ l. eqb s l.0 && eqb d l.1) (s, d) links link (ap (λ b. b && eqb d d) (same_node s) ∙ same_node d)
     ] in
     reached refl))
 

@@ -2,4 +2,6 @@ pub mod Actor
 pub mod Greatest
 pub mod LostNodes
 pub mod Members
+pub mod NodeFlags
+pub mod Nodes
 pub mod Rising

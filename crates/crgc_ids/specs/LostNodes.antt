@@ -1,16 +1,11 @@
 -- The nodes that are lost, by the links whose Final is folded. A link is the pair of its source and its destination.
 use Rattle.std.specs.Prelude.{◌<◌, ◌==◌, ◌&&◌, ◌||◌, ℕ, Bool, List}
-use Rattle.std.specs.List.{filter, list_all, list_any, range_with_len}
+use Rattle.std.specs.List.{filter, list_all, list_any}
 use Rattle.crgc_ids.specs.Greatest.{greatest}
 use Rattle.crgc_ids.specs.Members.{IsAmong}
+use Rattle.crgc_ids.specs.Nodes.{has_node, nodes_below}
 
--- the nodes below n, rising
-abbrev pub nodes_below : ℕ → List ℕ
-nodes_below n = range_with_len 0 n
-
-abbrev pub has_node : List ℕ → ℕ → Bool
-has_node xs k = list_any (λ x. k == x) xs
-
+-- whether the link from s to d is one of the list
 abbrev pub has_link : List (ℕ × ℕ) → ℕ → ℕ → Bool
 has_link links s d = list_any (λ l. (s == l.0) && (d == l.1)) links
 

@@ -1,20 +1,25 @@
 //! The names that every other crate uses: nodes, actors, sets of nodes, cuts, and small lists.
 #![tactic(auto)]
 
+mod cut;
 mod ids;
 pub mod laws;
 mod lists;
+mod node_set;
 mod rising;
 
+pub use cut::Cut;
 pub use ids::{ActorId, NodeId};
 pub use lists::{ActorList, ItemList, Octets, RefList};
+pub use node_set::NodeSet;
 pub use rising::{ActorCount, ActorCounts, PairCount, PairCounts, RisingList, Row};
 
 /// Want of memory: the allocator gave none.
 #[derive(Clone, Copy, PartialEq, Eq, Debug)]
 pub struct NoMemory;
 
-/// Which limit was passed: the bytes of the input, the events, the actors of a node, or the bytes of a Delta.
+/// Which limit was passed: the bytes of the input, the events of the history, the actors of a node, or the actors that
+/// one bulletin names.
 #[derive(Clone, Copy, PartialEq, Eq, Debug)]
 pub enum Which {
     Input,
@@ -22,3 +27,6 @@ pub enum Which {
     Actors,
     Delta,
 }
+
+#[cfg(test)]
+mod tests;

@@ -1,5 +1,5 @@
 -- What grows with the history: lists of messages go on, and counts never fall.
-use Rattle.std.proofs.Common.{◌≡◌, ◌<◌, ◌≤◌, ◌+◌, ◌&&◌, ◌||◌, ℕ, zero, suc, Bool, true, false, not, List, [], ◌∷◌, ◌++◌, length, refl, sym, ◌∙◌, ap, subst, inl, inr, arith, IsTrue, IsFalse, cond, take, sum_by, append_assoc, append-nil, filter}
+use Rattle.std.proofs.Common.{◌≡◌, ◌<◌, ◌≤◌, ◌+◌, ◌&&◌, ◌||◌, ℕ, zero, suc, Bool, true, false, not, List, [], ◌∷◌, ◌++◌, length, refl, sym, ◌∙◌, ap, subst, inl, inr, arith, IsTrue, IsFalse, cond, take, sum_by, append_assoc, append-nil, length-append, filter}
 use Rattle.std.proofs.lemmas.Bool.{false≢true}
 use Rattle.std.proofs.lemmas.List.Sums.{sum_by-append}
 use Rattle.std.proofs.lemmas.List.Folds.{list_any-append}
@@ -34,6 +34,9 @@ module _ {A : Type 0} where
 
   pub sum_by-begins : (w : A → ℕ) (xs zs : List A) → Begins xs zs → sum_by w xs ≤ sum_by w zs
   sum_by-begins w xs zs begins = omega (arith, ap (sum_by w) begins.1, sum_by-append w xs begins.0)
+
+  pub length-begins : (xs zs : List A) → Begins xs zs → length xs ≤ length zs
+  length-begins xs zs begins = omega (arith, ap length begins.1, length-append xs begins.0)
 
 -- ---- lists of messages
 

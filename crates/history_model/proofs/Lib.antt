@@ -4,6 +4,8 @@ pub mod SoundnessSums
 pub mod AccountsBirths
 pub mod AccountsGrowth
 pub mod AccountsNotes
+pub mod AccountsCopies
+pub mod AccountsOpen
 pub mod AccountsMail
 pub mod AccountsTaken
 pub mod FoldSumsKnown

@@ -1,7 +1,8 @@
 -- Folds: what a collector has read of each origin's stream, and the nodes that it finds lost.
 use Rattle.std.specs.Prelude.{ℕ, zero, suc, ◌+◌, ◌==◌, Bool, true, false, ◌&&◌, ◌||◌, not, if◌then◌else◌, nat_lt, List, [], ◌∷◌, ◌++◌, length, take, flat_map}
 use Rattle.std.specs.List.{list_any}
-use Rattle.crgc_ids.specs.LostNodes.{nodes_below, has_node, lost_nodes}
+use Rattle.crgc_ids.specs.LostNodes.{lost_nodes}
+use Rattle.crgc_ids.specs.Nodes.{nodes_below, has_node}
 use Rattle.history_model.specs.declared.events.Event.{Event}
 use Rattle.history_model.specs.declared.events.Event.TheVariants.{Hand}
 use Rattle.history_model.specs.Cluster.{Cluster}

@@ -4,7 +4,7 @@ use Rattle.std.specs.Prelude.{ℕ, zero, suc, ◌+◌, ◌==◌, Bool, true, fal
 use Rattle.std.specs.List.{list_any, list_all, filter}
 use Rattle.crgc_ids.specs.Actor.{Actor}
 use Rattle.crgc_ids.specs.Greatest.{greatest}
-use Rattle.crgc_ids.specs.LostNodes.{nodes_below}
+use Rattle.crgc_ids.specs.Nodes.{nodes_below}
 use Rattle.history_model.specs.Tally.{tally}
 use Rattle.history_model.specs.Cluster.{Cluster, same_actor}
 use Rattle.history_model.specs.Facts.{Flags, Fact, received, sent_to, created, released, flagged, is_received, is_sent_to, is_created, is_released, names}

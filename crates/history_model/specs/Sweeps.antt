@@ -1,12 +1,13 @@
 -- Sweeps: what the collector of a node stops, and which actors are stopped.
-use Rattle.std.specs.Prelude.{ℕ, ◌==◌, Bool, true, false, ◌&&◌, ◌||◌, not, List, [], ◌∷◌, map}
+use Rattle.std.specs.Prelude.{ℕ, ◌≡◌, ◌<◌, ◌≤◌, ◌==◌, Bool, true, false, ◌&&◌, ◌||◌, not, List, [], ◌∷◌, map, slice_index}
 use Rattle.std.specs.List.{filter}
 use Rattle.crgc_ids.specs.Actor.{Actor}
 use Rattle.history_model.specs.declared.events.Event.{Event}
 use Rattle.history_model.specs.declared.events.Event.TheVariants.{Sweep}
 use Rattle.history_model.specs.Cluster.{Cluster, same_actor}
 use Rattle.history_model.specs.declared.records.Stop.{Stop}
-use Rattle.history_model.specs.Folds.{Fold, folded, is_lost}
+use Rattle.history_model.specs.declared.records.Verdict.{Verdict}
+use Rattle.history_model.specs.Folds.{Fold, cut_at, lost_of, folded, is_lost}
 use Rattle.history_model.specs.Graph.{received_count, told_count, admitted_count, has_edge, known_actors, dead, holds_actor}
 
 -- the dead of what is folded at m
@@ -40,3 +41,11 @@ stop_of cl lost f a = record {
 -- the stops of a sweep by m, rising
 abbrev pub stops_of : Cluster → ℕ → List Event → List Stop
 stops_of cl m h = map (stop_of cl (is_lost cl (folded cl m h)) (folded cl m h)) (stopped_by cl m h)
+
+-- the verdict of a sweep by m
+pub record IsVerdict (cl : Cluster) (m : ℕ) (h : List Event) (v : Verdict) : Type 0 where
+  pub node : v.node ≡ m
+  pub cut : (o : ℕ) → o < cl.nodes → slice_index v.cut o ≡ cut_at cl m h o
+  pub beyond : (o : ℕ) → cl.nodes ≤ o → slice_index v.cut o ≡ 0
+  pub lost : v.lost ≡ lost_of cl (folded cl m h)
+  pub stops : v.stops ≡ stops_of cl m h

@@ -2,7 +2,9 @@
 #![tactic(auto)]
 
 mod events;
+mod history;
 mod records;
 
 pub use events::{Event, Rule};
-pub use records::{Bulletin, Delta, Entry, StateRow, StateRows, Stop, StopList, Window};
+pub use history::History;
+pub use records::{Bulletin, Delta, Entry, StateRow, StateRows, Stop, StopList, Verdict, Window};

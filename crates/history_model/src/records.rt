@@ -1,7 +1,9 @@
 //! Plain records: what logs, bulletins and verdicts contain.
 ghost use Rattle.std.specs.Prelude.{◌<◌};
 
-use crgc_ids::{ActorCounts, ActorId, ActorList, ItemList, NodeId, PairCounts, RisingList, Row};
+use crgc_ids::{
+    ActorCounts, ActorId, ActorList, Cut, ItemList, NodeId, NodeSet, PairCounts, RisingList, Row,
+};
 
 /// One actor's state in a Delta: how many messages it took, and the flags of its last flush.
 #[derive(Clone, Copy, PartialEq, Eq, Debug)]
@@ -77,3 +79,12 @@ pub struct Stop {
 
 /// The stops of a sweep, rising by actor.
 pub type StopList = ItemList<Stop>;
+
+/// What a sweep finds: how much of each origin is folded at its node, the lost nodes, and the stops.
+#[derive(Debug, Drop)]
+pub struct Verdict {
+    pub node: NodeId,
+    pub cut: Cut,
+    pub lost: NodeSet,
+    pub stops: StopList,
+}

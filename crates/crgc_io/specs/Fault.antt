@@ -1,0 +1,6 @@
+-- Counts of faults.
+use Rattle.std.specs.Prelude.{◌≡◌, ℕ, ◌<◌, ◌⊎◌}
+
+-- the count rose, or it stands at the last value of its type, where it stands still
+abbrev pub CountRose : ℕ → ℕ → Type 0
+CountRose old new = (old < new) ⊎ (new ≡ 18446744073709551615)

@@ -1,0 +1,104 @@
+-- The spelling of lines: words joined by single spaces.
+use Rattle.std.specs.Prelude.{ℕ, ◌<◌, ◌≤◌, ◌^◌, ◌==◌, Bool, List, [], ◌∷◌, ◌++◌, length, map, decimal, codes, flat_map}
+use Rattle.std.specs.List.{join_with_byte, slice_split}
+use Rattle.crgc_ids.specs.Actor.{Actor}
+use Rattle.history_model.specs.declared.events.Event.{Event}
+use Rattle.history_model.specs.declared.events.Event.TheVariants.{Seed, Tie, Wake, Take, Spawn, Send, Drop, Retire, Rest, Flush, Publish, Window, Admit, Lose, Repeat, Crash, Remove, Hand, Sweep}
+use Rattle.history_model.specs.declared.records.Stop.{Stop}
+use Rattle.history_model.specs.Cluster.{Cluster}
+
+-- the words of a line, joined by single spaces
+abbrev pub spell : List (List ℕ) → List ℕ
+spell words = join_with_byte 32 words
+
+-- an actor is its node, a dot, and its serial
+abbrev pub actor_word : Actor → List ℕ
+actor_word a = decimal a.node ++ 46 ∷ decimal a.serial
+
+abbrev pub header_words : Cluster → List (List ℕ)
+header_words cl = codes "crgc" ∷ decimal cl.version ∷ codes "nodes" ∷ decimal cl.nodes ∷ []
+
+abbrev pub event_words : Event → List (List ℕ)
+event_words (Seed n) = codes "seed" ∷ decimal n ∷ []
+event_words (Tie a b) = codes "tie" ∷ actor_word a ∷ actor_word b ∷ []
+event_words (Wake a) = codes "wake" ∷ actor_word a ∷ []
+event_words (Take a) = codes "take" ∷ actor_word a ∷ []
+event_words (Spawn a) = codes "spawn" ∷ actor_word a ∷ []
+event_words (Send a b refs) = codes "send" ∷ actor_word a ∷ actor_word b ∷ map actor_word refs
+event_words (Drop a b) = codes "drop" ∷ actor_word a ∷ actor_word b ∷ []
+event_words (Retire a) = codes "retire" ∷ actor_word a ∷ []
+event_words (Rest a) = codes "rest" ∷ actor_word a ∷ []
+event_words (Flush a) = codes "flush" ∷ actor_word a ∷ []
+event_words (Publish n) = codes "publish" ∷ decimal n ∷ []
+event_words (Window d s) = codes "window" ∷ decimal d ∷ decimal s ∷ []
+event_words (Admit s d k) = codes "admit" ∷ decimal s ∷ decimal d ∷ decimal k ∷ []
+event_words (Lose s d k) = codes "lose" ∷ decimal s ∷ decimal d ∷ decimal k ∷ []
+event_words (Repeat s d k) = codes "repeat" ∷ decimal s ∷ decimal d ∷ decimal k ∷ []
+event_words (Crash n) = codes "crash" ∷ decimal n ∷ []
+event_words (Remove m n) = codes "remove" ∷ decimal m ∷ decimal n ∷ []
+event_words (Hand m o k) = codes "hand" ∷ decimal m ∷ decimal o ∷ decimal k ∷ []
+event_words (Sweep n) = codes "sweep" ∷ decimal n ∷ []
+
+-- the counts of the cut, one a node in order, then the lost nodes, rising
+abbrev pub cut_words : ℕ → List ℕ → List ℕ → List (List ℕ)
+cut_words m counts lost = codes "cut" ∷ decimal m ∷ (map decimal counts ++ codes "lost" ∷ map decimal lost)
+
+abbrev pub stop_words : ℕ → Stop → List (List ℕ)
+stop_words m s =
+    codes "stop" ∷ actor_word s.actor ∷ codes "by" ∷ decimal m ∷ codes "received" ∷ decimal s.received
+    ∷ codes "told" ∷ decimal s.told ∷ codes "admitted" ∷ decimal s.admitted ∷ codes "owners" ∷ map actor_word s.owners
+
+abbrev pub end_words : ℕ → ℕ → List (List ℕ)
+end_words events stopped =
+    codes "end" ∷ codes "events" ∷ decimal events ∷ codes "stopped" ∷ decimal stopped ∷ []
+
+-- a node is a number from 0 to 15
+abbrev pub IsNodeNumber : ℕ → Type 0
+IsNodeNumber n = n < 16
+
+abbrev pub IsActorName : Actor → Type 0
+IsActorName a = (a.node < 16) × (a.serial < 262144)
+
+abbrev pub AreActorNames : List Actor → Type 0
+AreActorNames [] = Unit {0}
+AreActorNames (a ∷ as_) = IsActorName a × AreActorNames as_
+
+-- the numbers of the event are in their ranges, and a message carries at most 16 references
+abbrev pub IsSpellable : Event → Type 0
+IsSpellable (Seed n) = IsNodeNumber n
+IsSpellable (Tie a b) = IsActorName a × IsActorName b
+IsSpellable (Wake a) = IsActorName a
+IsSpellable (Take a) = IsActorName a
+IsSpellable (Spawn a) = IsActorName a
+IsSpellable (Send a b refs) = IsActorName a × IsActorName b × AreActorNames refs × (length refs ≤ 16)
+IsSpellable (Drop a b) = IsActorName a × IsActorName b
+IsSpellable (Retire a) = IsActorName a
+IsSpellable (Rest a) = IsActorName a
+IsSpellable (Flush a) = IsActorName a
+IsSpellable (Publish n) = IsNodeNumber n
+IsSpellable (Window d s) = IsNodeNumber d × IsNodeNumber s
+IsSpellable (Admit s d k) = IsNodeNumber s × IsNodeNumber d × (k < 2 ^ 32)
+IsSpellable (Lose s d k) = IsNodeNumber s × IsNodeNumber d × (k < 2 ^ 32)
+IsSpellable (Repeat s d k) = IsNodeNumber s × IsNodeNumber d × (k < 2 ^ 32)
+IsSpellable (Crash n) = IsNodeNumber n
+IsSpellable (Remove m n) = IsNodeNumber m × IsNodeNumber n
+IsSpellable (Hand m o k) = IsNodeNumber m × IsNodeNumber o × (k < 2 ^ 32)
+IsSpellable (Sweep n) = IsNodeNumber n
+
+abbrev pub AreSpellable : List Event → Type 0
+AreSpellable [] = Unit {0}
+AreSpellable (e ∷ p) = IsSpellable e × AreSpellable p
+
+-- the lines of a text: the pieces between line feeds, where an empty last piece is no line
+abbrev pub without_empty_end : List (List ℕ) → List (List ℕ)
+without_empty_end [] = []
+without_empty_end ([] ∷ []) = []
+without_empty_end ((b ∷ bs) ∷ []) = (b ∷ bs) ∷ []
+without_empty_end (x ∷ y ∷ xs) = x ∷ without_empty_end (y ∷ xs)
+
+abbrev pub lines_of : List ℕ → List (List ℕ)
+lines_of text = without_empty_end (slice_split (λ b. b == 10) text)
+
+-- the text of some lines, each of which ends with a line feed
+abbrev pub text_of : List (List ℕ) → List ℕ
+text_of lines = flat_map (λ l. l ++ 10 ∷ []) lines
