@@ -1,22 +1,196 @@
 -- The known actors of a fold, and what holds of every positive edge.
-use Rattle.std.proofs.Common.{◌≡◌, ◌<◌, ◌≤◌, ◌+◌, ◌&&◌, ◌||◌, ◌↔◌, ℕ, Bool, true, false, not, List, [], ◌∷◌, ◌++◌, length, refl, sym, ◌∙◌, ap, subst, inl, inr, arith}
-use Rattle.std.specs.Prelude.{nat_lt, ◌⊎◌, cond}
+use Rattle.std.proofs.Common.{◌≡◌, ◌<◌, ◌+◌, ◌&&◌, ◌||◌, ◌↔◌, ◌⊎◌, ℕ, Bool, true, false, cond, List, [], ◌∷◌, ◌++◌, refl, sym, ◌∙◌, ap, subst, inl, inr, arith}
+use Rattle.std.proofs.lemmas.Bool.{false≢true}
+use Rattle.std.proofs.lemmas.Bool.Decides.{Decides-ltb}
+use Rattle.std.specs.List.{flat_map}
 use Rattle.crgc_ids.specs.Actor.{Actor}
+use Rattle.crgc_ids.specs.LostNodes.{nodes_below}
 use Rattle.crgc_ids.specs.Members.{IsAmong}
+use Rattle.crgc_ids.proofs.MembersLaws.{IsAmong-append_cases, IsAmong-append_left, IsAmong-append_right, IsAmong-from_range, IsAmong-range, list_any-member, list_any-true}
 use Rattle.history_model.specs.Tally.{tally}
 use Rattle.history_model.specs.Cluster.{Cluster, same_actor}
-use Rattle.history_model.specs.Facts.{Fact, names}
+use Rattle.history_model.specs.Facts.{Fact, received, sent_to, created, released, flagged, is_created, names}
+use Rattle.history_model.specs.Streams.{Notice, delta, window_of, final_of}
 use Rattle.history_model.specs.Folds.{Fold}
-use Rattle.history_model.specs.Graph.{notice_facts, known_actors, has_edge, holds_actor}
+use Rattle.history_model.specs.Graph.{admitted_facts, carried_count, created_count, delta_facts, has_edge, holds_actor, insert_actor, is_actor_below, known_actors, link_facts, named_by, notice_facts, released_count, rising_actors, told_facts}
+use Rattle.history_model.proofs.Basics.{and_true, or_true, same_actor-equal, same_actor-refl}
+
+-- ---- members of lists
 
 -- the test for a member tells the members
 pub holds-among : (xs : List Actor) (a : Actor) → (holds_actor xs a ≡ true) ↔ IsAmong a xs
-holds-among xs a = ?
+holds-among xs a = (
+  λ t.
+      let found = list_any-true (λ x. same_actor x a) xs t in
+      subst (λ x. IsAmong x xs) (same_actor-equal found.0 a found.2) found.1,
+  λ h. list_any-member (λ x. same_actor x a) a xs h (same_actor-refl a),
+)
+
+-- what is counted at all is there
+pub tally-some : {X : Type 0} (test : X → Bool) (xs : List X) → 0 < tally test xs → (x : X) × IsAmong x xs × (test x ≡ true)
+tally-some test [] l = absurd (omega arith)
+tally-some {X} test (y ∷ ys) l =
+    let later : 0 < tally test ys → (x : X) × IsAmong x (y ∷ ys) × (test x ≡ true) =
+      λ m. (let found = tally-some test ys m in (found.0, inr found.1, found.2)) in
+    let Found : Bool → Type 0 = λ v. test y ≡ v → 0 < cond v (tally test ys + 1) (tally test ys) → (x : X) × IsAmong x (y ∷ ys) × (test x ≡ true) in
+    let found : Found (test y) = elim (test y) as Found [ true ↦ λ t _. (y, inl refl, t) | false ↦ λ _ m. later m ] in
+    found refl l
+
+-- the members of a `flat_map` are those of the pieces
+pub IsAmong-flat_map : {X Y : Type 0} (f : X → List Y) (y : Y) (x : X) (xs : List X) → IsAmong x xs → IsAmong y (f x) → IsAmong y (flat_map f xs)
+IsAmong-flat_map f y x [] h m = absurd h
+IsAmong-flat_map f y x (z ∷ zs) (inl e) m = IsAmong-append_left y (f z) (flat_map f zs) (subst (λ w. IsAmong y (f w)) e m)
+IsAmong-flat_map f y x (z ∷ zs) (inr h) m = IsAmong-append_right y (f z) (flat_map f zs) (IsAmong-flat_map f y x zs h m)
+
+pub IsAmong-from_flat_map : {X Y : Type 0} (f : X → List Y) (y : Y) (xs : List X) → IsAmong y (flat_map f xs) → (x : X) × IsAmong x xs × IsAmong y (f x)
+IsAmong-from_flat_map f y [] h = absurd h
+IsAmong-from_flat_map f y (z ∷ zs) h =
+    elim (IsAmong-append_cases y (f z) (flat_map f zs) h) [
+      | inl here ↦ (z, inl refl, here)
+      | inr later ↦ (let found = IsAmong-from_flat_map f y zs later in (found.0, inr found.1, found.2))
+    ]
+
+-- ---- rising lists of actors
+
+insert-among : (a b : Actor) (xs : List Actor) → IsAmong a (insert_actor b xs) → (a ≡ b) ⊎ IsAmong a xs
+insert-among a b [] h = h
+insert-among a b (c ∷ cs) h =
+    let Kept : Type 0 = (a ≡ b) ⊎ IsAmong a (c ∷ cs) in
+    let later : IsAmong a (c ∷ insert_actor b cs) → Kept =
+      λ k. elim k [ inl e ↦ inr (inl e) | inr m ↦ elim (insert-among a b cs m) [ inl e ↦ inl e | inr n ↦ inr (inr n) ] ] in
+    let below : IsAmong a (cond (is_actor_below b c) (b ∷ c ∷ cs) (c ∷ insert_actor b cs)) → Kept =
+      elim (is_actor_below b c) as (λ v. IsAmong a (cond v (b ∷ c ∷ cs) (c ∷ insert_actor b cs)) → Kept) [ true ↦ λ k. k | false ↦ later ] in
+    (elim (same_actor b c) as (λ v. IsAmong a (cond v (c ∷ cs) (cond (is_actor_below b c) (b ∷ c ∷ cs) (c ∷ insert_actor b cs))) → Kept) [
+      | true ↦ λ k. inr k
+      | false ↦ below
+    ]) h
+
+insert-keeps : (a b : Actor) (xs : List Actor) → (a ≡ b) ⊎ IsAmong a xs → IsAmong a (insert_actor b xs)
+insert-keeps a b [] h = h
+insert-keeps a b (c ∷ cs) h =
+    let later : IsAmong a (c ∷ insert_actor b cs) =
+      elim h [ inl e ↦ inr (insert-keeps a b cs (inl e)) | inr k ↦ elim k [ inl e ↦ inl e | inr m ↦ inr (insert-keeps a b cs (inr m)) ] ] in
+    let below : IsAmong a (cond (is_actor_below b c) (b ∷ c ∷ cs) (c ∷ insert_actor b cs)) =
+      elim (is_actor_below b c) as (λ v. IsAmong a (cond v (b ∷ c ∷ cs) (c ∷ insert_actor b cs))) [ true ↦ h | false ↦ later ] in
+    let Kept : Bool → Type 0 = λ v. same_actor b c ≡ v → IsAmong a (cond v (c ∷ cs) (cond (is_actor_below b c) (b ∷ c ∷ cs) (c ∷ insert_actor b cs))) in
+    let kept : Kept (same_actor b c) = elim (same_actor b c) as Kept [
+      | true ↦ λ t. elim h [ inl e ↦ inl (e ∙ same_actor-equal b c t) | inr k ↦ k ]
+      | false ↦ λ _. below
+    ] in
+    kept refl
+
+rising-among : (a : Actor) (xs : List Actor) → IsAmong a (rising_actors xs) ↔ IsAmong a xs
+rising-among a [] = (λ h. h, λ h. h)
+rising-among a (b ∷ bs) = (
+  λ h. elim (insert-among a b (rising_actors bs) h) [ inl e ↦ inl e | inr k ↦ inr ((rising-among a bs).0 k) ],
+  λ h. insert-keeps a b (rising_actors bs) (elim h [ inl e ↦ inl e | inr k ↦ inr ((rising-among a bs).1 k) ]),
+)
+
+-- ---- named and known actors
+
+one-named : (a b : Actor) → (same_actor b a ≡ true) ↔ IsAmong a (b ∷ [])
+one-named a b = (
+  λ t. inl (sym (same_actor-equal b a t)),
+  λ h. elim h [ inl e ↦ subst (λ c. same_actor c a ≡ true) e (same_actor-refl a) | inr k ↦ absurd k ],
+)
+
+or_right : (a b : Bool) → b ≡ true → (a || b) ≡ true
+or_right true b t = refl
+or_right false b t = t
+
+two-named : (a b c : Actor) → ((same_actor b a || same_actor c a) ≡ true) ↔ IsAmong a (b ∷ c ∷ [])
+two-named a b c = (
+  λ t. elim (or_true (same_actor b a) (same_actor c a) t) [ inl l ↦ inl (sym (same_actor-equal b a l)) | inr r ↦ inr (inl (sym (same_actor-equal c a r))) ],
+  λ h. elim h [
+    | inl e ↦ ap (λ v. v || same_actor c a) ((one-named a b).1 (inl e))
+    | inr k ↦ or_right (same_actor b a) (same_actor c a) ((one-named a c).1 k)
+  ],
+)
+
+-- the test for a name tells the actors named
+pub names-among : (a : Actor) (x : Fact) → (names a x ≡ true) ↔ IsAmong a (named_by x)
+names-among a (received b) = one-named a b
+names-among a (sent_to b) = one-named a b
+names-among a (created b c) = two-named a b c
+names-among a (released b c) = two-named a b c
+names-among a (flagged b g) = one-named a b
 
 -- exactly the actors that a fact of some bulletin names are known
 pub known-named : (cl : Cluster) (f : Fold) (a : Actor) → IsAmong a (known_actors cl f) ↔ ((o : ℕ) × (o < cl.nodes) × (x : Fact) × IsAmong x (notice_facts (f o)) × (names a x ≡ true))
-known-named cl f a = ?
+known-named cl f a =
+    let facts : ℕ → List Fact = λ o. notice_facts (f o) in
+    let all : List Fact = flat_map facts (nodes_below cl.nodes) in (
+      λ h.
+          let named = IsAmong-from_flat_map named_by a all ((rising-among a (flat_map named_by all)).0 h) in
+          let told = IsAmong-from_flat_map facts named.0 (nodes_below cl.nodes) named.1 in
+          let below = IsAmong-from_range told.0 0 cl.nodes told.1 in
+          (told.0, omega arith, named.0, told.2, (names-among a named.0).1 named.2),
+      λ h.
+          let fact = IsAmong-flat_map facts h.2 h.0 (nodes_below cl.nodes) (IsAmong-range h.0 0 cl.nodes (omega arith) (omega arith)) h.3 in
+          (rising-among a (flat_map named_by all)).1 (IsAmong-flat_map named_by a h.2 all fact ((names-among a h.2).0 h.4)),
+    )
+
+-- ---- edges
+
+-- what deltas tell is among the facts of all bulletins
+pub delta-notice : (x : Fact) (ns : List Notice) → IsAmong x (delta_facts ns) → IsAmong x (notice_facts ns)
+delta-notice x [] h = h
+delta-notice x (delta facts ∷ ns) h =
+    elim (IsAmong-append_cases x facts (delta_facts ns) h) [
+      | inl k ↦ IsAmong-append_left x facts (notice_facts ns) k
+      | inr k ↦ IsAmong-append_right x facts (notice_facts ns) (delta-notice x ns k)
+    ]
+delta-notice x (window_of s facts ∷ ns) h = IsAmong-append_right x facts (notice_facts ns) (delta-notice x ns h)
+delta-notice x (final_of s facts ∷ ns) h = IsAmong-append_right x facts (notice_facts ns) (delta-notice x ns h)
+
+link-piece : (x : Fact) (b : Bool) (facts told all : List Fact) → (IsAmong x told → IsAmong x all) → IsAmong x (cond b (facts ++ told) told) → IsAmong x (facts ++ all)
+link-piece x true facts told all part h =
+    elim (IsAmong-append_cases x facts told h) [ inl k ↦ IsAmong-append_left x facts all k | inr k ↦ IsAmong-append_right x facts all (part k) ]
+link-piece x false facts told all part h = IsAmong-append_right x facts all (part h)
+
+-- what windows and finals tell is among them
+pub link-notice : (lost : ℕ → Bool) (x : Fact) (ns : List Notice) → IsAmong x (link_facts lost ns) → IsAmong x (notice_facts ns)
+link-notice lost x [] h = h
+link-notice lost x (delta facts ∷ ns) h = IsAmong-append_right x facts (notice_facts ns) (link-notice lost x ns h)
+link-notice lost x (window_of s facts ∷ ns) h = link-piece x (lost s) facts (link_facts lost ns) (notice_facts ns) (link-notice lost x ns) h
+link-notice lost x (final_of s facts ∷ ns) h = link-piece x (lost s) facts (link_facts lost ns) (notice_facts ns) (link-notice lost x ns) h
+
+-- a fact of pieces that are parts of the nodes' bulletins makes known whom it names
+piece-known : (cl : Cluster) (f : Fold) (pieces : ℕ → List Fact) → ((o : ℕ) (x : Fact) → IsAmong x (pieces o) → IsAmong x (notice_facts (f o))) → (x : Fact) → IsAmong x (flat_map pieces (nodes_below cl.nodes)) → (a : Actor) → names a x ≡ true → IsAmong a (known_actors cl f)
+piece-known cl f pieces part x h a t =
+    let found = IsAmong-from_flat_map pieces x (nodes_below cl.nodes) h in
+    let below = IsAmong-from_range found.0 0 cl.nodes found.1 in
+    (known-named cl f a).1 (found.0, omega arith, x, part found.0 x found.2, t)
+
+out-notice : (b : Bool) (x : Fact) (ns : List Notice) → IsAmong x (cond b [] (delta_facts ns)) → IsAmong x (notice_facts ns)
+out-notice true x ns h = absurd h
+out-notice false x ns h = delta-notice x ns h
+
+created-names : (b a : Actor) (x : Fact) → is_created b a x ≡ true → (names b x ≡ true) × (names a x ≡ true)
+created-names b a (created c d) t =
+    let both = and_true (same_actor c b) (same_actor d a) t in
+    ((two-named b c d).1 (inl (sym (same_actor-equal c b both.0))), (two-named a c d).1 (inr (inl (sym (same_actor-equal d a both.1)))))
+created-names b a _ t = absurd (false≢true t)
 
 -- both ends of a positive edge are known
 pub edge-known : (cl : Cluster) (lost : ℕ → Bool) (f : Fold) (b a : Actor) → has_edge cl lost f b a ≡ true → IsAmong b (known_actors cl f) × IsAmong a (known_actors cl f)
-edge-known cl lost f b a edge = ?
+edge-known cl lost f b a edge =
+    let Both : Type 0 = IsAmong b (known_actors cl f) × IsAmong a (known_actors cl f) in
+    let less : released_count cl f b a < created_count cl lost f b a + carried_count cl lost f b a =
+      (Decides-ltb (released_count cl f b a) (created_count cl lost f b a + carried_count cl lost f b a)).0 edge in
+    let told : ℕ → List Fact = λ o. cond (lost o) [] (delta_facts (f o)) in
+    let admitted : ℕ → List Fact = λ o. link_facts lost (f o) in
+    let from_told : 0 < created_count cl lost f b a → Both = λ l. (
+      let found = tally-some (is_created b a) (told_facts cl lost f) l in
+      let known = piece-known cl f told (λ o x. out-notice (lost o) x (f o)) found.0 found.1 in
+      let named = created-names b a found.0 found.2 in
+      (known b named.0, known a named.1)
+    ) in
+    let from_admitted : 0 < carried_count cl lost f b a → Both = λ l. (
+      let found = tally-some (is_created b a) (admitted_facts cl lost f) l in
+      let known = piece-known cl f admitted (λ o x. link-notice lost x (f o)) found.0 found.1 in
+      let named = created-names b a found.0 found.2 in
+      (known b named.0, known a named.1)
+    ) in
+    let some : (0 < created_count cl lost f b a) ⊎ (0 < carried_count cl lost f b a) = grind arith in
+    elim some [ inl l ↦ from_told l | inr l ↦ from_admitted l ]

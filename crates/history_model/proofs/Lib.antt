@@ -13,6 +13,7 @@ pub mod FoldSumsDead
 pub mod FoldSumsReached
 pub mod FoldSumsNotes
 pub mod FoldSumsCuts
+pub mod FoldSumsBulletins
 pub mod FoldSumsStreams
 pub mod FoldSumsCounts
 pub mod LinksWindows
