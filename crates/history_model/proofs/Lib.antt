@@ -19,6 +19,7 @@ pub mod FoldSumsCounts
 pub mod LinksWindows
 pub mod LinksStreams
 pub mod LinksSettled
+pub mod LinksSums
 pub mod LinksMail
 pub mod LinksLost
 pub mod Supervision

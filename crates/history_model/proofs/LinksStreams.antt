@@ -1,5 +1,5 @@
 -- Streams, cuts and folds only grow with the history.
-use Rattle.std.proofs.Common.{◌≡◌, ◌≤◌, ◌<◌, ◌+◌, ◌&&◌, ◌||◌, ◌==◌, ℕ, zero, suc, Bool, true, false, cond, List, [], ◌∷◌, ◌++◌, length, take, refl, sym, ◌∙◌, ap, subst, inl, inr, arith, append_assoc, append-nil, length-append}
+use Rattle.std.proofs.Common.{◌≡◌, ◌≤◌, ◌<◌, ◌&&◌, ◌==◌, ℕ, zero, suc, Bool, true, false, cond, List, [], ◌∷◌, ◌++◌, length, take, refl, sym, ◌∙◌, ap, subst, inl, inr, arith, append_assoc, append-nil, length-append}
 use Rattle.std.proofs.lemmas.Bool.{cases_lt, or_right}
 use Rattle.std.proofs.lemmas.List.{take-append-le}
 use Rattle.std.specs.List.{list_any}
@@ -42,12 +42,12 @@ run_of-passes : (test : ℕ → Bool) (n k : ℕ) → k < run_of test n → test
 run_of-passes test zero k below = absurd (omega arith)
 run_of-passes test (suc n) k below =
     let last : (run_of test n == n) && test n ≡ true → k < suc n → test k ≡ true = λ t l.
-        let both = and_true (run_of test n == n) (test n) t in
-        let full = eqb-equal (run_of test n) n both.0 in
-        elim (cases_lt k n) [
-          | inl less ↦ run_of-passes test n k (omega (arith, less, full))
-          | inr most ↦ (let same : n ≡ k = omega (arith, most, l) in subst (λ x. test x ≡ true) same both.1)
-        ] in
+    let both = and_true (run_of test n == n) (test n) t in
+    let full = eqb-equal (run_of test n) n both.0 in
+    elim (cases_lt k n) [
+      | inl less ↦ run_of-passes test n k (omega (arith, less, full))
+      | inr most ↦ (let same : n ≡ k = omega (arith, most, l) in subst (λ x. test x ≡ true) same both.1)
+    ] in
     (elim ((run_of test n == n) && test n) as (λ v. (run_of test n == n) && test n ≡ v → k < cond v (suc n) (run_of test n) → test k ≡ true) [
       | true ↦ λ t l. last t l
       | false ↦ λ t l. run_of-passes test n k l
@@ -59,9 +59,9 @@ run_of-longest test zero j within pass = within
 run_of-longest test (suc n) j within pass =
     let bound = run_of-bounded test n in
     let all : j ≡ suc n → (run_of test n == n) && test n ≡ true = λ e.
-        let reached = run_of-longest test n n (omega arith) (λ k l. pass k (omega (arith, l, e))) in
-        let full : run_of test n ≡ n = omega (arith, reached, bound) in
-        ap (λ x. (x == n) && test n) full ∙ ap (λ b. b && test n) (eqb-refl n) ∙ pass n (omega (arith, e)) in
+    let reached = run_of-longest test n n (omega arith) (λ k l. pass k (omega (arith, l, e))) in
+    let full : run_of test n ≡ n = omega (arith, reached, bound) in
+    ap (λ x. (x == n) && test n) full ∙ ap (λ b. b && test n) (eqb-refl n) ∙ pass n (omega (arith, e)) in
     elim (cases_lt j (suc n)) [
       | inl less ↦ (let before = run_of-longest test n j (omega (arith, less)) pass in
           elim ((run_of test n == n) && test n) as (λ v. j ≤ cond v (suc n) (run_of test n)) [ true ↦ within | false ↦ before ])

@@ -6,7 +6,7 @@ use Rattle.std.proofs.lemmas.Grind.{flat_map-append}
 use Rattle.history_model.specs.declared.events.Event.{Event}
 use Rattle.history_model.specs.declared.events.Event.TheVariants.{Publish, Window, Admit, Remove}
 use Rattle.history_model.specs.Cluster.{Cluster}
-use Rattle.history_model.specs.Messages.{Message, admitted_by}
+use Rattle.history_model.specs.Messages.{admitted_by}
 use Rattle.history_model.specs.Facts.{Fact, message_facts}
 use Rattle.history_model.specs.Streams.{Notice, delta, window_of, final_of, queue, window, stream}
 use Rattle.history_model.specs.Graph.{link_facts}
@@ -40,8 +40,8 @@ window_told s d x y open_at xs n told one before =
     let Goal : Bool → Bool → Type 0 = λ v w. tells (cond w (xs ++ n ∷ []) xs) ++ cond (v && w) [] (open_at s d) ≡ told in
     let other : x == s ≡ false → Goal false (y == d) = λ e. ap (λ ys. ys ++ open_at s d) (link_facts-skip (λ k. k == s) xs n (y == d) (one ∙ cond-false (x == s) (open_at x y ++ []) [] e)) ∙ before in
     let same : x == s ≡ true → y == d ≡ true → Goal true true = λ e f.
-        append-nil (tells (xs ++ n ∷ [])) ∙ link_facts-append (λ k. k == s) xs (n ∷ [])
-        ∙ ap (λ ys. tells xs ++ ys) (one ∙ cond-true (x == s) (open_at x y ++ []) [] e ∙ append-nil (open_at x y) ∙ ap₂ open_at (eqb-equal x s e) (eqb-equal y d f)) ∙ before in
+    append-nil (tells (xs ++ n ∷ [])) ∙ link_facts-append (λ k. k == s) xs (n ∷ [])
+    ∙ ap (λ ys. tells xs ++ ys) (one ∙ cond-true (x == s) (open_at x y ++ []) [] e ∙ append-nil (open_at x y) ∙ ap₂ open_at (eqb-equal x s e) (eqb-equal y d f)) ∙ before in
     (elim (x == s) as (λ v. x == s ≡ v → Goal v (y == d)) [
       | true ↦ λ e. (elim (y == d) as (λ w. y == d ≡ w → Goal true w) [ true ↦ λ f. same e f | false ↦ λ f. before ]) refl
       | false ↦ λ e. other e
