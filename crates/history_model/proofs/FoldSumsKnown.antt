@@ -4,7 +4,7 @@ use Rattle.std.proofs.lemmas.Bool.{false≢true}
 use Rattle.std.proofs.lemmas.Bool.Decides.{Decides-ltb}
 use Rattle.std.specs.List.{flat_map}
 use Rattle.crgc_ids.specs.Actor.{Actor}
-use Rattle.crgc_ids.specs.LostNodes.{nodes_below}
+use Rattle.crgc_ids.specs.Nodes.{nodes_below}
 use Rattle.crgc_ids.specs.Members.{IsAmong}
 use Rattle.crgc_ids.proofs.MembersLaws.{IsAmong-append_cases, IsAmong-append_left, IsAmong-append_right, IsAmong-from_range, IsAmong-range, list_any-member, list_any-true}
 use Rattle.history_model.specs.Tally.{tally}

@@ -4,7 +4,8 @@ use Rattle.std.proofs.lemmas.Bool.{false_from_ne_true, true≢false}
 use Rattle.std.proofs.lemmas.List.{take_all}
 use Rattle.std.specs.List.{filter}
 use Rattle.crgc_ids.specs.Members.{IsAmong, IsPart}
-use Rattle.crgc_ids.specs.LostNodes.{IsLostSet, nodes_below}
+use Rattle.crgc_ids.specs.LostNodes.{IsLostSet}
+use Rattle.crgc_ids.specs.Nodes.{nodes_below}
 use Rattle.crgc_ids.proofs.LostNodesLaws.{lost_nodes-greatest, lost_nodes-grow}
 use Rattle.crgc_ids.proofs.MembersLaws.{IsAmong-filter, IsAmong-from_filter, IsAmong-from_range, IsAmong-range}
 use Rattle.history_model.specs.declared.events.Event.{Event}

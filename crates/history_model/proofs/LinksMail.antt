@@ -4,7 +4,7 @@ use Rattle.std.proofs.lemmas.Bool.{cases_eq}
 use Rattle.std.proofs.lemmas.List.Sums.{sum_by-append}
 use Rattle.std.specs.List.{filter}
 use Rattle.crgc_ids.specs.Actor.{Actor}
-use Rattle.crgc_ids.specs.LostNodes.{nodes_below}
+use Rattle.crgc_ids.specs.Nodes.{nodes_below}
 use Rattle.crgc_ids.specs.Members.{IsAmong}
 use Rattle.crgc_ids.proofs.MembersLaws.{IsAmong-append_cases, IsAmong-from_filter}
 use Rattle.history_model.specs.declared.events.Event.{Event}

@@ -5,7 +5,7 @@ use Rattle.std.proofs.lemmas.Bool.{cases_lt, cond-false, or_left, or_right, fals
 use Rattle.std.proofs.lemmas.List.{take-append-le, take_all}
 use Rattle.std.specs.List.{list_any}
 use Rattle.crgc_ids.specs.Members.{IsAmong}
-use Rattle.crgc_ids.specs.LostNodes.{nodes_below}
+use Rattle.crgc_ids.specs.Nodes.{nodes_below}
 use Rattle.crgc_ids.proofs.LostNodesLaws.{lost_nodes-lost}
 use Rattle.crgc_ids.proofs.MembersLaws.{IsAmong-append_cases, IsAmong-append_left, IsAmong-append_right, IsAmong-range, IsAmong-from_range, list_any-member, list_any-true}
 use Rattle.history_model.specs.declared.events.Event.{Event}
