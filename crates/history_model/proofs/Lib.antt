@@ -27,3 +27,5 @@ pub mod SoundnessTold
 pub mod SoundnessBounds
 pub mod StabilityState
 pub mod SoundnessStep
+pub mod SoundnessQuiet
+pub mod Soundness
