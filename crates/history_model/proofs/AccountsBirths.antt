@@ -1,19 +1,19 @@
 -- Births in a legal history: what is born stays born, births are on nodes of the cluster, and whoever notes, is named by
 -- a fact, sends, is sent to or is carried was born before.
-use Rattle.std.proofs.Common.{◌≡◌, ◌<◌, ◌≤◌, ◌+◌, ◌&&◌, ◌||◌, ◌⊎◌, ℕ, zero, suc, Bool, true, false, not, List, [], ◌∷◌, ◌++◌, length, map, refl, sym, ◌∙◌, ap, subst, inl, inr, arith, IsTrue, IsFalse, cond, drop, filter, slice_get, option_to_list}
-use Rattle.std.proofs.lemmas.Bool.{false≢true, ltb-true, lt-ltb, le-ltb, cases_lt}
+use Rattle.std.proofs.Common.{◌≡◌, ◌<◌, ◌+◌, ◌&&◌, ◌||◌, ℕ, zero, suc, Bool, true, false, List, [], ◌∷◌, ◌++◌, map, refl, sym, ◌∙◌, ap, subst, inl, inr, arith, IsTrue, IsFalse, cond, drop, filter, slice_get, option_to_list}
+use Rattle.std.proofs.lemmas.Bool.{ltb-true, lt-ltb, le-ltb, cases_lt}
 use Rattle.std.specs.Prelude.{◌==◌}
 use Rattle.crgc_ids.specs.Actor.{Actor}
 use Rattle.crgc_ids.specs.Members.{IsAmong}
 use Rattle.crgc_ids.proofs.MembersLaws.{IsAmong-append_cases, IsAmong-append_left, IsAmong-append_right, IsAmong-from_filter}
 use Rattle.history_model.specs.declared.events.Event.{Event}
-use Rattle.history_model.specs.declared.events.Event.TheVariants.{Seed, Tie, Wake, Take, Spawn, Send, Drop, Admit}
+use Rattle.history_model.specs.declared.events.Event.TheVariants.{Seed, Tie, Take, Spawn, Send, Drop, Admit}
 use Rattle.history_model.specs.Tally.{tally}
 use Rattle.history_model.specs.Cluster.{Cluster, same_actor, is_birth_on, births, newborn, is_born}
 use Rattle.history_model.specs.Messages.{Message, sent, message_at, admitted_by, was_admitted, is_to, mail, takes, waiting}
-use Rattle.history_model.specs.Facts.{Fact, received, sent_to, created, released, Note, note_by, notes, names, message_facts}
-use Rattle.history_model.specs.Legal.{Check, check, born_all, IsLegal}
-use Rattle.history_model.proofs.Basics.{and_true, or_true, eqb-refl, eqb-equal, same_actor-refl, same_actor-equal, tally-append, AreKept, legal-kept}
+use Rattle.history_model.specs.Facts.{received, sent_to, created, released, Note, note_by, notes, names, message_facts}
+use Rattle.history_model.specs.Legal.{Check, born_all, IsLegal}
+use Rattle.history_model.proofs.Basics.{and_true, or_true, eqb-refl, eqb-equal, same_actor-equal, tally-append, AreKept, legal-kept}
 use Rattle.history_model.proofs.Sums.{all_sent, noted_sum}
 
 -- ---- members of lists
@@ -30,9 +30,11 @@ module _ {A : Type 0} where
   each-more P x xs first rest y (inl e) = subst P (sym e) first
   each-more P x xs first rest y (inr among) = rest y among
 
+  -- a list of one
   pub each-one : (P : A → Type 0) (x : A) → P x → Each P (x ∷ [])
   each-one P x first = each-more P x [] first (each-none P)
 
+  -- a member of a part is one of the list
   pub among-drop : (n : ℕ) (x : A) (xs : List A) → IsAmong x (drop n xs) → IsAmong x xs
   among-drop zero x xs among = among
   among-drop (suc n) x [] among = absurd among
@@ -52,6 +54,7 @@ module _ {A : Type 0} where
   among-else true x xs among = absurd among
   among-else false x xs among = among
 
+-- what is true of the images of all members
 pub each-map : {A B : Type 0} (P : B → Type 0) (f : A → B) (xs : List A) → Each (λ x. P (f x)) xs → Each P (map f xs)
 each-map P f [] each = each-none P
 each-map P f (x ∷ xs) each = each-more P (f x) (map f xs) (each x (inl refl)) (each-map P f xs (λ y among. each y (inr among)))
@@ -95,6 +98,7 @@ births-on_nodes cl (Spawn a ∷ p) legal n some =
     split refl some
 births-on_nodes cl (_ ∷ p) legal n some = births-on_nodes cl p legal.1 n some
 
+-- who is born lives on a node of the cluster
 pub born-on_node : (cl : Cluster) (h : List Event) → IsLegal cl h → (a : Actor) → IsTrue (is_born a h) → a.node < cl.nodes
 born-on_node cl h legal a born =
     births-on_nodes cl h legal a.node (omega (arith, ltb-true a.serial (births a.node h) born))
@@ -105,6 +109,7 @@ born-on_node cl h legal a born =
 abbrev pub AreBorn : List Event → Note → Type 0
 AreBorn h x = IsTrue (is_born x.by h) × ((a : Actor) → IsTrue (names a x.fact) → IsTrue (is_born a h))
 
+-- an actor that tests as a born one is born
 same-born : (h : List Event) (b a : Actor) → IsTrue (is_born b h) → IsTrue (same_actor b a) → IsTrue (is_born a h)
 same-born h b a born same = subst (λ c. IsTrue (is_born c h)) (same_actor-equal b a same) born
 
@@ -130,7 +135,7 @@ each-notes_of_spawn cl a p P itself parent supervisor =
       | false ↦ each-none P
     ] in
     each-more P (note_by child (created child child)) (note_by child (created a child) ∷ cond (cl.version == 2) last []) itself
-      (each-more P (note_by child (created a child)) (cond (cl.version == 2) last []) parent supervised)
+    (each-more P (note_by child (created a child)) (cond (cl.version == 2) last []) parent supervised)
 
 -- who notes is born with the event, and so is whoever its fact names
 pub notes-born : (cl : Cluster) (e : Event) (p : List Event) → IsLegal cl (e ∷ p) → Each (AreBorn (e ∷ p)) (notes cl e p)
@@ -154,15 +159,15 @@ notes-born cl (Spawn a) p legal =
     let born : IsTrue (is_born child h) = newborn-born a.node (Spawn a) p (eqb-refl a.node) in
     let parent : IsTrue (is_born a h) = born-grows a (Spawn a ∷ []) p kept.0 in
     each-notes_of_spawn cl a p (AreBorn h)
-      (created-born h child child child born born born) (created-born h child a child born parent born)
-      (created-born h a child a parent born parent)
+    (created-born h child child child born born born) (created-born h child a child born parent born)
+    (created-born h a child a parent born parent)
 notes-born cl (Send f t refs) p legal =
     let h = Send f t refs ∷ p in
     let kept = legal-kept cl (Send f t refs) p legal in
     let named = kept-born refs p _ kept.1.1 in
     each-map (AreBorn h) (note_by f) (message_facts (record { from = f; to = t; refs = refs }))
-      (each-more (λ x. AreBorn h (note_by f x)) (sent_to t) (map (created t) refs) (kept.0, λ c same. same-born h t c kept.1.0 same)
-        (each-map (λ x. AreBorn h (note_by f x)) (created t) refs (λ a among. created-born h f t a kept.0 kept.1.0 (named a among))))
+    (each-more (λ x. AreBorn h (note_by f x)) (sent_to t) (map (created t) refs) (kept.0, λ c same. same-born h t c kept.1.0 same)
+    (each-map (λ x. AreBorn h (note_by f x)) (created t) refs (λ a among. created-born h f t a kept.0 kept.1.0 (named a among))))
 notes-born cl (Drop a t) p legal =
     let h = Drop a t ∷ p in
     let kept = legal-kept cl (Drop a t) p legal in
@@ -180,6 +185,7 @@ tally-some {A} test (x ∷ xs) some =
     ] in
     split refl some
 
+-- who was born before the event is born after it
 born-later : (e : Event) (p : List Event) (x : Note) → AreBorn p x → AreBorn (e ∷ p) x
 born-later e p x born = (born-grows x.by (e ∷ []) p born.0, λ a named. born-grows a (e ∷ []) p (born.1 a named))
 
@@ -204,9 +210,9 @@ sent-among s d (Send f t refs ∷ p) m among =
     let Found : Type 0 = IsAmong m (all_sent p ++ one ∷ []) × (m.from.node ≡ s) × (m.to.node ≡ d) in
     let before : IsAmong m (sent s d p) → Found = λ earlier. (let found = sent-among s d p m earlier in (IsAmong-append_left m (all_sent p) (one ∷ []) found.0, found.1, found.2)) in
     let now : IsTrue ((f.node == s) && (t.node == d)) → IsAmong m (one ∷ []) → Found = λ same here.
-      let both = and_true (f.node == s) (t.node == d) same in
-      let is_one : m ≡ one = elim here [ inl e ↦ e | inr none ↦ absurd none ] in
-      (IsAmong-append_right m (all_sent p) (one ∷ []) here, ap (λ (k : Message). k.from.node) is_one ∙ eqb-equal f.node s both.0, ap (λ (k : Message). k.to.node) is_one ∙ eqb-equal t.node d both.1) in
+    let both = and_true (f.node == s) (t.node == d) same in
+    let is_one : m ≡ one = elim here [ inl e ↦ e | inr none ↦ absurd none ] in
+    (IsAmong-append_right m (all_sent p) (one ∷ []) here, ap (λ (k : Message). k.from.node) is_one ∙ eqb-equal f.node s both.0, ap (λ (k : Message). k.to.node) is_one ∙ eqb-equal t.node d both.1) in
     let split = elim ((f.node == s) && (t.node == d)) as (λ v. ((f.node == s) && (t.node == d)) ≡ v → IsAmong m (cond v (sent s d p ++ one ∷ []) (sent s d p)) → Found) [
       | true ↦ λ same either. elim (IsAmong-append_cases m (sent s d p) (one ∷ []) either) [ inl earlier ↦ before earlier | inr here ↦ now same here ]
       | false ↦ λ _ earlier. before earlier
@@ -214,6 +220,7 @@ sent-among s d (Send f t refs ∷ p) m among =
     split refl among
 sent-among s d (_ ∷ p) m among = sent-among s d p m among
 
+-- a numbered message of a link was sent on it
 pub message_at-among : (s d k : ℕ) (h : List Event) (m : Message) → IsAmong m (message_at s d k h) → IsAmong m (sent s d h)
 message_at-among s d k h m among = among-place k m (sent s d h) among
 
@@ -238,6 +245,7 @@ mail-among b (Admit s d k ∷ p) m among =
     ]
 mail-among b (_ ∷ p) m among = mail-among b p m among
 
+-- what waits was admitted
 pub waiting-among : (b : Actor) (h : List Event) (m : Message) → IsAmong m (waiting b h) → IsAmong m (mail b h)
 waiting-among b h m among = among-drop (takes b h) m (mail b h) among
 
@@ -245,10 +253,12 @@ waiting-among b h m among = among-drop (takes b h) m (mail b h) among
 abbrev pub IsMessageBorn : List Event → Message → Type 0
 IsMessageBorn h m = IsTrue (is_born m.from h) × IsTrue (is_born m.to h) × ((a : Actor) → IsAmong a m.refs → IsTrue (is_born a h))
 
+-- they stay so
 message-later : (e : Event) (p : List Event) (m : Message) → IsMessageBorn p m → IsMessageBorn (e ∷ p) m
 message-later e p m born =
     (born-grows m.from (e ∷ []) p born.0, born-grows m.to (e ∷ []) p born.1, λ a among. born-grows a (e ∷ []) p (born.2 a among))
 
+-- all that was sent names born actors alone
 pub sent-born : (cl : Cluster) (h : List Event) → IsLegal cl h → Each (IsMessageBorn h) (all_sent h)
 sent-born cl [] legal m among = absurd among
 sent-born cl (Send f t refs ∷ p) legal m among =
@@ -264,5 +274,6 @@ sent-born cl (Send f t refs ∷ p) legal m among =
     ]
 sent-born cl (e ∷ p) legal m among = message-later e p m (sent-born cl p legal.1 m among)
 
+-- and so does what was admitted
 pub mail-born : (cl : Cluster) (h : List Event) → IsLegal cl h → (b : Actor) → Each (IsMessageBorn h) (mail b h)
 mail-born cl h legal b m among = sent-born cl h legal m (mail-among b h m among).0

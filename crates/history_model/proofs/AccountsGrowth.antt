@@ -1,18 +1,16 @@
 -- What grows with the history: lists of messages go on, and counts never fall.
-use Rattle.std.proofs.Common.{◌≡◌, ◌<◌, ◌≤◌, ◌+◌, ◌&&◌, ◌||◌, ℕ, zero, suc, Bool, true, false, not, List, [], ◌∷◌, ◌++◌, length, refl, sym, ◌∙◌, ap, subst, inl, inr, arith, IsTrue, IsFalse, cond, take, sum_by, append_assoc, append-nil, length-append, filter}
+use Rattle.std.proofs.Common.{◌≡◌, ◌≤◌, ◌+◌, ◌&&◌, ◌||◌, ℕ, zero, suc, Bool, true, false, not, List, [], ◌∷◌, ◌++◌, length, refl, sym, ◌∙◌, ap, subst, arith, IsTrue, cond, take, sum_by, append_assoc, append-nil, length-append, filter}
 use Rattle.std.proofs.lemmas.Bool.{false≢true}
 use Rattle.std.proofs.lemmas.List.Sums.{sum_by-append}
-use Rattle.std.proofs.lemmas.List.Folds.{list_any-append}
 use Rattle.std.specs.List.{list_any}
 use Rattle.std.specs.Prelude.{◌==◌}
 use Rattle.crgc_ids.specs.Actor.{Actor}
 use Rattle.history_model.specs.declared.events.Event.{Event}
 use Rattle.history_model.specs.declared.events.Event.TheVariants.{Seed, Tie, Spawn, Send, Admit}
-use Rattle.history_model.specs.Tally.{tally}
-use Rattle.history_model.specs.Cluster.{Cluster, same_actor}
+use Rattle.history_model.specs.Cluster.{Cluster}
 use Rattle.history_model.specs.Messages.{Message, sent, mail, is_to, admitted_by, is_take_by, is_admit, is_removal, takes, taken, was_admitted, is_closed}
-use Rattle.history_model.specs.Facts.{Note, notes}
-use Rattle.history_model.specs.Held.{gifts, carried, got, gave, is_drop_of, is_note_of}
+use Rattle.history_model.specs.Facts.{Note}
+use Rattle.history_model.specs.Held.{gifts, carried, got, gave, is_drop_of}
 use Rattle.history_model.specs.State.{is_up, is_crash}
 use Rattle.history_model.proofs.Basics.{tally-append}
 use Rattle.history_model.proofs.Sums.{all_sent, noted_sum}
@@ -81,7 +79,8 @@ gifts-grow cl b a (Tie o t ∷ q) p = omega (arith, gifts-grow cl b a q p)
 gifts-grow cl b a (Spawn x ∷ q) p = omega (arith, gifts-grow cl b a q p)
 gifts-grow cl b a (_ ∷ q) p = gifts-grow cl b a q p
 
-carried-append : (a : Actor) (xs ys : List Message) → carried a (xs ++ ys) ≡ carried a xs + carried a ys
+-- joined lists carry what both carry
+pub carried-append : (a : Actor) (xs ys : List Message) → carried a (xs ++ ys) ≡ carried a xs + carried a ys
 carried-append a [] ys = omega arith
 carried-append a (m ∷ xs) ys = omega (arith, carried-append a xs ys)
 
@@ -96,7 +95,7 @@ pub carried-grows : (b a : Actor) (q p : List Event) → carried a (taken b p) �
 carried-grows b a q p =
     let begins = mail-begins b q p in
     subst (λ ms. carried a (taken b p) ≤ carried a (take (takes b (q ++ p)) ms)) (sym begins.1)
-      (carried-take a (takes b p) (takes b (q ++ p)) (mail b p) begins.0 (takes-grow b q p))
+    (carried-take a (takes b p) (takes b (q ++ p)) (mail b p) begins.0 (takes-grow b q p))
 
 pub got-grows : (cl : Cluster) (b a : Actor) (q p : List Event) → got cl b a p ≤ got cl b a (q ++ p)
 got-grows cl b a q p = omega (arith, gifts-grow cl b a q p, carried-grows b a q p)
@@ -107,12 +106,13 @@ noted-grows cl test (e ∷ q) p = omega (arith, noted-grows cl test q p)
 
 -- ---- states
 
+-- a test or one that passes
 or-true : (b : Bool) → (b || true) ≡ true
 or-true true = refl
 or-true false = refl
 
 -- a test that some event passed stays passed
-any-stays : (test : Event → Bool) (q p : List Event) → IsTrue (list_any test p) → IsTrue (list_any test (q ++ p))
+pub any-stays : (test : Event → Bool) (q p : List Event) → IsTrue (list_any test p) → IsTrue (list_any test (q ++ p))
 any-stays test [] p t = t
 any-stays test (e ∷ q) p t = rw (any-stays test q p t) (or-true (test e))
 

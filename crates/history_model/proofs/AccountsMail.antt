@@ -1,8 +1,7 @@
 -- Each message is admitted at most once: what was admitted to an actor, and what is open on links to it, is what was sent
 -- to it.
-use Rattle.std.proofs.Common.{◌≡◌, ◌≢◌, ◌<◌, ◌≤◌, ◌+◌, ◌&&◌, ◌||◌, ℕ, zero, suc, Bool, true, false, not, List, [], ◌∷◌, ◌++◌, length, refl, sym, ◌∙◌, ap, subst, inl, inr, arith, IsTrue, IsFalse, cond, if◌then◌else◌, filter, sum_by, slice_get, option_to_list}
+use Rattle.std.proofs.Common.{◌≡◌, ◌≢◌, ◌<◌, ◌≤◌, ◌+◌, ℕ, zero, suc, Bool, true, false, List, [], ◌∷◌, ◌++◌, length, refl, sym, ◌∙◌, ap, subst, inl, inr, arith, IsTrue, cond, filter, sum_by, slice_get, option_to_list}
 use Rattle.std.proofs.lemmas.Bool.{false≢true, cases_lt, eq-eqb, ne_eqb}
-use Rattle.std.proofs.lemmas.List.Elements.{filter-append}
 use Rattle.std.proofs.lemmas.List.Sums.{sum_by-append}
 use Rattle.std.specs.Prelude.{◌==◌}
 use Rattle.crgc_ids.specs.Actor.{Actor}
@@ -22,6 +21,7 @@ use Rattle.history_model.proofs.AccountsOpen.{weigh, weigh-append, Admitted, adm
 abbrev pub admitted_in : List Event → Admitted
 admitted_in h = λ s d k. was_admitted s d k h
 
+-- what more mail adds
 mail-append : (b : Actor) (w : Message → ℕ) (p : List Event) (ms : List Message) → sum_by w (mail b p ++ filter (is_to b) ms) ≡ sum_by w (mail b p) + weigh b w ms
 mail-append b w p ms = sum_by-append w (mail b p) (filter (is_to b) ms)
 
@@ -31,6 +31,7 @@ at-once : (b : Actor) (w : Message → ℕ) (m : Message) (local closed : Bool) 
 at-once b w m true closed open_yet = omega arith
 at-once b w m false closed open_yet = rw open_yet (omega arith)
 
+-- the number that the next message of a link gets was not admitted
 next-not_admitted : (cl : Cluster) (p : List Event) → IsLegal cl p → (s d : ℕ) → was_admitted s d (length (sent s d p)) p ≡ false
 next-not_admitted cl p legal s d =
     let k = length (sent s d p) in
@@ -86,10 +87,12 @@ place-stays k m [] ys e = absurd (omega (arith, ap length e))
 place-stays zero m (x ∷ xs) ys e = e
 place-stays (suc k) m (x ∷ xs) ys e = place-stays k m xs ys e
 
+-- the last message stands at the place after the others
 place-last : (m : Message) (xs : List Message) → option_to_list (slice_get (xs ++ m ∷ []) (length xs)) ≡ m ∷ []
 place-last m [] = refl
 place-last m (x ∷ xs) = place-last m xs
 
+-- so does one of a link, as the history goes on
 pub message_at-stays : (s d k : ℕ) (q p : List Event) (m : Message) → message_at s d k p ≡ m ∷ [] → message_at s d k (q ++ p) ≡ m ∷ []
 message_at-stays s d k q p m e =
     let begins = sent-begins s d q p in
@@ -113,30 +116,31 @@ part-none adm b w f t refs p each =
     let k = length (sent f.node t.node p) in
     let weight = weigh b w (one ∷ []) in
     let light : (f.node == t.node) ≡ false → adm f.node t.node k ≡ false → same_actor t b ≡ true → w one ≡ 0 = λ apart is_open to.
-      let at_t = subst (λ c. AllAdmitted adm c w h) (sym (same_actor-equal t b to)) each in
-      let two_nodes : f.node ≢ t.node = λ same. false≢true (sym apart ∙ eq-eqb f.node t.node same) in
-      elim (cases_lt 0 (w one)) [
-        | inl some ↦ absurd (false≢true (sym is_open ∙ at_t f.node k two_nodes one (message_at-sent f t refs p) refl some))
-        | inr none ↦ omega arith
-      ] in
+    let at_t = subst (λ c. AllAdmitted adm c w h) (sym (same_actor-equal t b to)) each in
+    let two_nodes : f.node ≢ t.node = λ same. false≢true (sym apart ∙ eq-eqb f.node t.node same) in
+    elim (cases_lt 0 (w one)) [
+      | inl some ↦ absurd (false≢true (sym is_open ∙ at_t f.node k two_nodes one (message_at-sent f t refs p) refl some))
+      | inr none ↦ omega arith
+    ] in
     let weightless : (f.node == t.node) ≡ false → adm f.node t.node k ≡ false → weight ≡ 0 = λ apart is_open.
-      let split = elim (same_actor t b) as (λ v. same_actor t b ≡ v → sum_by w (cond v (one ∷ []) []) ≡ 0) [
-        | true ↦ λ to. omega (arith, light apart is_open to)
-        | false ↦ λ _. refl
-      ] in
-      split refl in
+    let split = elim (same_actor t b) as (λ v. same_actor t b ≡ v → sum_by w (cond v (one ∷ []) []) ≡ 0) [
+      | true ↦ λ to. omega (arith, light apart is_open to)
+      | false ↦ λ _. refl
+    ] in
+    split refl in
     let link : (f.node == t.node) ≡ false → cond (adm f.node t.node k) 0 weight ≡ 0 = λ apart.
-      let split = elim (adm f.node t.node k) as (λ v. adm f.node t.node k ≡ v → cond v 0 weight ≡ 0) [
-        | true ↦ λ _. refl
-        | false ↦ λ is_open. weightless apart is_open
-      ] in
-      split refl in
+    let split = elim (adm f.node t.node k) as (λ v. adm f.node t.node k ≡ v → cond v 0 weight ≡ 0) [
+      | true ↦ λ _. refl
+      | false ↦ λ is_open. weightless apart is_open
+    ] in
+    split refl in
     let split = elim (f.node == t.node) as (λ v. (f.node == t.node) ≡ v → cond v 0 (cond (adm f.node t.node k) 0 weight) ≡ 0) [
       | true ↦ λ _. refl
       | false ↦ λ apart. link apart
     ] in
     split refl
 
+-- where each that weighs counts as admitted, nothing is open
 open-none : (adm : Admitted) (b : Actor) (w : Message → ℕ) (h : List Event) → AllAdmitted adm b w h → open_sum adm b w h ≡ 0
 open-none adm b w [] each = refl
 open-none adm b w (Send f t refs ∷ p) each =

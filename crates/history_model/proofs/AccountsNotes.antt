@@ -1,34 +1,21 @@
 -- What all notes of a history count: the messages sent to an actor, the references that it was given or sent, those that
 -- it gave up, and the messages that it took.
-use Rattle.std.proofs.Common.{◌≡◌, ◌<◌, ◌≤◌, ◌+◌, ◌&&◌, ◌||◌, ℕ, Bool, true, false, not, List, [], ◌∷◌, ◌++◌, length, map, refl, sym, ◌∙◌, ap, subst, inl, inr, arith, eqb, IsTrue, IsFalse, cond, if◌then◌else◌, filter, sum_by}
-use Rattle.std.proofs.lemmas.Bool.{false≢true}
-use Rattle.std.proofs.lemmas.Bool.Decides.{Decides-eqb, same_from_decides}
+use Rattle.std.proofs.Common.{◌≡◌, ◌+◌, ◌&&◌, ℕ, Bool, true, false, List, [], ◌∷◌, map, refl, sym, ◌∙◌, ap, inl, inr, arith, IsTrue, cond, if◌then◌else◌, filter, sum_by}
 use Rattle.std.proofs.lemmas.List.Elements.{filter-append}
 use Rattle.std.proofs.lemmas.List.Sums.{sum_by-append}
 use Rattle.crgc_ids.specs.Actor.{Actor}
-use Rattle.crgc_ids.specs.Members.{IsAmong}
 use Rattle.history_model.specs.declared.events.Event.{Event}
 use Rattle.history_model.specs.declared.events.Event.TheVariants.{Seed, Tie, Take, Spawn, Send, Drop}
 use Rattle.history_model.specs.Tally.{tally}
 use Rattle.history_model.specs.Cluster.{Cluster, same_actor, newborn}
 use Rattle.history_model.specs.Messages.{Message, is_to, takes}
-use Rattle.history_model.specs.Facts.{Fact, received, created, released, Note, notes, note_by, message_facts, is_sent_to, is_created, is_released, is_received}
+use Rattle.history_model.specs.Facts.{Fact, created, Note, notes, note_by, is_sent_to, is_created, is_released, is_received}
 use Rattle.history_model.specs.Held.{gifts, gave, is_note_of}
-use Rattle.history_model.proofs.Basics.{same_actor-equal, tally-append}
+use Rattle.history_model.proofs.Basics.{and-false, same_actor-equal, same_actor-sym, tally-append}
 use Rattle.history_model.proofs.Sums.{all_sent, noted_sum}
-use Rattle.history_model.proofs.AccountsBirths.{Each, each-none, each-one, each-more, each-notes_of_spawn}
+use Rattle.history_model.proofs.AccountsBirths.{Each, each-notes_of_spawn}
 
--- ---- tests and tallies
-
-and-false : (b : Bool) → (b && false) ≡ false
-and-false true = refl
-and-false false = refl
-
-eqb-sym : (m n : ℕ) → eqb m n ≡ eqb n m
-eqb-sym m n = same_from_decides (eqb m n) (eqb n m) (Decides-eqb m n) (λ t. sym ((Decides-eqb n m).0 t), λ e. (Decides-eqb n m).1 (sym e))
-
-pub same_actor-sym : (a b : Actor) → same_actor a b ≡ same_actor b a
-same_actor-sym a b = rw (eqb-sym a.node b.node, eqb-sym a.serial b.serial) refl
+-- ---- tallies
 
 module _ {A : Type 0} where
   -- tests that agree on all members count alike
@@ -73,10 +60,12 @@ sent-noted cl (_ ∷ p) sel a = omega (arith, sent-noted cl p sel a)
 abbrev pub carries_from : (ℕ → Bool) → Actor → Message → ℕ
 carries_from sel a m = if sel m.from.node then tally (same_actor a) m.refs else 0
 
+-- a choice between equal numbers
 if-same : (v : Bool) (n : ℕ) → cond v n n ≡ n
 if-same true n = refl
 if-same false n = refl
 
+-- one reference more among those of a message
 one-more : (chosen to named : Bool) (all some : ℕ) → some ≡ cond (chosen && to) all 0 → cond (chosen && (to && named)) (some + 1) some ≡ cond (chosen && to) (cond named (all + 1) all) 0
 one-more true true true all some e = ap (λ n. n + 1) e
 one-more true true false all some e = e
@@ -119,7 +108,7 @@ created-noted cl (Spawn c ∷ p) sel b a chosen =
     let child = newborn c.node p in
     let test : Note → Bool = λ x. sel x.by.node && is_created b a x.fact in
     let agree = each-notes_of_spawn cl c p (λ x. test x ≡ is_note_of b a x)
-      (gift-noted sel b a child child chosen) (gift-noted sel b a c child chosen) (gift-noted sel b a child c chosen) in
+    (gift-noted sel b a child child chosen) (gift-noted sel b a c child chosen) (gift-noted sel b a child c chosen) in
     rw (tally-agree test (is_note_of b a) (notes cl (Spawn c) p) agree) (omega (arith, created-noted cl p sel b a chosen))
 created-noted cl (Send f t refs ∷ p) sel b a chosen =
     let one : Message = record { from = f; to = t; refs = refs } in
@@ -132,11 +121,12 @@ created-noted cl (_ ∷ p) sel b a chosen = omega (arith, created-noted cl p sel
 
 -- ---- what is given up and what is taken
 
--- a test that no note of a birth, a tie or a message passes
+-- references carried to an actor count nothing where no creation for it passes
 sent-none : (test : Fact → Bool) (f t : Actor) (refs : List Actor) → ((r : Actor) → test (created t r) ≡ false) → tally (λ x. test x.fact) (map (note_by f) (map (created t) refs)) ≡ 0
 sent-none test f t [] none = refl
 sent-none test f t (r ∷ refs) none = rw (none r) (sent-none test f t refs none)
 
+-- to add one where a test passes
 if-one : (v : Bool) (n : ℕ) → n + cond v (0 + 1) 0 ≡ cond v (n + 1) n
 if-one true n = omega arith
 if-one false n = omega arith

@@ -1,16 +1,17 @@
 -- No actor takes more than its mail, and none gives up more references than it got.
-use Rattle.std.proofs.Common.{◌≡◌, ◌<◌, ◌≤◌, ◌+◌, ◌-◌, ◌&&◌, ◌||◌, ℕ, Bool, true, false, not, List, [], ◌∷◌, ◌++◌, length, refl, sym, ◌∙◌, ap, subst, inl, inr, arith, IsTrue, IsFalse, cond, drop, length-drop}
+use Rattle.std.proofs.Common.{◌≡◌, ◌<◌, ◌≤◌, ◌+◌, ◌&&◌, true, false, not, List, [], ◌∷◌, length, refl, subst, arith, cond, length-drop}
 use Rattle.std.proofs.lemmas.Bool.{false≢true, ltb-true}
 use Rattle.crgc_ids.specs.Actor.{Actor}
 use Rattle.history_model.specs.declared.events.Event.{Event}
 use Rattle.history_model.specs.declared.events.Event.TheVariants.{Take, Drop}
 use Rattle.history_model.specs.Cluster.{Cluster, same_actor}
-use Rattle.history_model.specs.Messages.{Message, mail, takes, waiting}
+use Rattle.history_model.specs.Messages.{mail, takes, waiting}
 use Rattle.history_model.specs.Held.{got, gave, held}
 use Rattle.history_model.specs.Legal.{IsLegal, has_nothing}
 use Rattle.history_model.proofs.Basics.{and_true, same_actor-equal, legal-kept}
 use Rattle.history_model.proofs.AccountsGrowth.{length-begins, mail-begins, got-grows}
 
+-- a list that is not empty
 has-something : {A : Type 0} (xs : List A) → not (has_nothing xs) ≡ true → 0 < length xs
 has-something [] t = absurd (false≢true t)
 has-something (x ∷ xs) t = omega arith
