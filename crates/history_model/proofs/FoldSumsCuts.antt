@@ -133,3 +133,15 @@ publish_cut-within cl o n (Publish m ∷ p) =
     let before = publish_cut-within cl o n p in
     elim ((m == o) && nat_lt (length (stream cl o p)) n) as (λ v. cond v (length p) (publish_cut cl o n p) ≤ suc (length p)) [ true ↦ omega arith | false ↦ omega arith ]
 publish_cut-within cl o n (e ∷ p) = let before = publish_cut-within cl o n p in omega arith
+
+-- a cut lies below the position
+pub flush_cut-below : (a : Actor) (t : ℕ) (h : List Event) → flush_cut a t h ≤ t
+flush_cut-below a t [] = omega arith
+flush_cut-below a t (Flush b ∷ p) =
+    let Low : Bool → Type 0 = λ v. (same_actor b a && nat_lt (length p) t) ≡ v → cond v (length p) (flush_cut a t p) ≤ t in
+    let low : Low (same_actor b a && nat_lt (length p) t) = elim (same_actor b a && nat_lt (length p) t) as Low [
+      | true ↦ λ e. (let less = (Decides-ltb (length p) t).0 (and_true (same_actor b a) (nat_lt (length p) t) e).1 in omega arith)
+      | false ↦ λ _. flush_cut-below a t p
+    ] in
+    low refl
+flush_cut-below a t (e ∷ p) = flush_cut-below a t p

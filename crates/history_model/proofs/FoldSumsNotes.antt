@@ -117,6 +117,18 @@ told-same cl u v s t (e ∷ p) same =
     let here = tally-same (λ n. nat_lt (length p) (u n.by) && s n) (λ n. nat_lt (length p) (v n.by) && t n) (notes cl e p) (same (length p) (omega arith)) in
     omega arith
 
+-- what no note passes is not told
+pub told-none : (cl : Cluster) (u : Actor → ℕ) (t : Note → Bool) (h : List Event) → ((x : Note) → t x ≡ false) → told_sum cl u t h ≡ 0
+told-none cl u t [] none = refl
+told-none cl u t (e ∷ p) none =
+    let before = told-none cl u t p none in
+    let here = tally-none (λ n. nat_lt (length p) (u n.by) && t n) (notes cl e p) (λ x _ b. false≢true (sym (none x) ∙ (and_true (nat_lt (length p) (u x.by)) (t x) b).1)) in
+    omega arith
+
+-- an event at or above all cuts tells nothing
+pub told-later : (cl : Cluster) (u : Actor → ℕ) (t : Note → Bool) (e : Event) (p : List Event) → ((a : Actor) → u a ≤ length p) → told_sum cl u t (e ∷ p) ≡ told_sum cl u t p
+told-later cl u t e p low = told-below cl u t (e ∷ []) p (λ _ _ x _ _. low x.by)
+
 -- ---- who notes what
 
 IsAmong-from_map : {X Y : Type 0} (f : X → Y) (y : Y) (xs : List X) → IsAmong y (map f xs) → (x : X) × IsAmong x xs × (y ≡ f x)
