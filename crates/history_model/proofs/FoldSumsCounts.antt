@@ -5,7 +5,7 @@ use Rattle.std.proofs.lemmas.Bool.Decides.{Decides-ltb}
 use Rattle.std.specs.List.{flat_map, range_with_len}
 use Rattle.std.specs.Prelude.{◌==◌, nat_lt}
 use Rattle.crgc_ids.specs.Actor.{Actor}
-use Rattle.crgc_ids.specs.LostNodes.{has_node, nodes_below}
+use Rattle.crgc_ids.specs.Nodes.{has_node, nodes_below}
 use Rattle.crgc_ids.specs.Members.{IsAmong}
 use Rattle.crgc_ids.proofs.MembersLaws.{IsAmong-from_range, IsAmong-range, list_any-member, list_any-true}
 use Rattle.history_model.specs.declared.events.Event.{Event}
