@@ -25,7 +25,7 @@ use Rattle.history_model.proofs.FoldSumsCuts.{flags-at-cut, flush_cut-within}
 use Rattle.history_model.proofs.FoldSumsDead.{dead-member, dead-closed}
 use Rattle.history_model.proofs.FoldSumsStreams.{own-flags}
 use Rattle.history_model.proofs.LinksMail.{admitted-mail, carried-mail}
-use Rattle.history_model.proofs.SoundnessSums.{tally-sum}
+use Rattle.history_model.proofs.LinksSums.{tally-sum_by}
 use Rattle.history_model.proofs.SoundnessTold.{is_creation, is_receipt, is_release, is_sending, counts_lost, IsAtRest, IsToldSet}
 use Rattle.history_model.proofs.SoundnessQuiet.{told-quiet}
 
@@ -67,7 +67,7 @@ dead-balanced : (cl : Cluster) (h : List Event) (c : ℕ → ℕ) (lost : ℕ �
 dead-balanced cl h c lost legal settled a member =
     let about = dead-member cl lost (fold_to cl c h) a member in
     let admitted = admitted-mail cl h c lost legal settled a (dead-on_node cl h c lost legal a member) about.not_lost in
-    let lost_mail = tally-sum (λ (m : Message). lost m.from.node) (mail a h) in
+    let lost_mail = tally-sum_by (λ (m : Message). lost m.from.node) (mail a h) in
     omega (arith, about.balanced, received-told cl h c a legal, sent-told cl h c lost a legal, admitted, lost_mail)
 
 -- whoever has a positive edge to it is dead, and whoever has none released what was told or admitted

@@ -64,7 +64,7 @@ no_take cl lost u members q p legal set told a member past =
     let mail_later = mail-grows a (counts_lost lost) q p in
     omega (arith, took, balance, sent_later, sent_now, sent_all, mail_others, mail_later, mail-split lost (mail a p))
 
--- what b got until p and is told, with what lost nodes sent it, is at most what it is told to have released
+-- past its cut, whoever is no member has given up all the references to a member that it got
 pub no_hold : (cl : Cluster) (lost : ℕ → Bool) (u : Actor → ℕ) (members : List Actor) (q p : List Event) → IsLegal cl (q ++ p) → IsToldSet cl (q ++ p) lost u members → AreTold cl lost u members p → (b a : Actor) → IsAmong a members → b.node < cl.nodes → lost b.node ≡ false → u b ≤ length p → IsAmong b members ⊎ (got cl b a p ≤ gave b a p)
 no_hold cl lost u members q p legal set told b a member node out past =
     let gave_all = released-below cl u b a q p past in

@@ -90,8 +90,14 @@ no_mail cl c lost u members h legal settled set told m live member =
 
 -- ---- references to members
 
--- whoever is no member gave up all references to a member that were made for it
-given-released : (cl : Cluster) (lost : ℕ → Bool) (u : Actor → ℕ) (members : List Actor) (h : List Event) → IsToldSet cl h lost u members → AreTold cl lost u members h → (b a : Actor) → IsAmong a members → ¬ IsAmong b members → b.node < cl.nodes → lost b.node ≡ false → gifts cl b a h + sum_by (carries_other lost a) (filter (is_to b) (all_sent h)) + sum_by (carries_from lost a) (mail b h) ≤ gave b a h
+-- b gave up all references to a that were made for it: by births and ties, sent from other nodes than the lost ones, or
+-- admitted from these
+abbrev HasReleased : Cluster → (ℕ → Bool) → List Event → Actor → Actor → Type 0
+HasReleased cl lost h b a =
+    gifts cl b a h + sum_by (carries_other lost a) (filter (is_to b) (all_sent h)) + sum_by (carries_from lost a) (mail b h) ≤ gave b a h
+
+-- whoever is no member gave up all references to a member
+given-released : (cl : Cluster) (lost : ℕ → Bool) (u : Actor → ℕ) (members : List Actor) (h : List Event) → IsToldSet cl h lost u members → AreTold cl lost u members h → (b a : Actor) → IsAmong a members → ¬ IsAmong b members → b.node < cl.nodes → lost b.node ≡ false → HasReleased cl lost h b a
 given-released cl lost u members h set told b a member outside node kept =
     let gave_all = released-below cl u b a [] h (set.within b) in
     let given_told = told.creations b a member in
@@ -102,7 +108,7 @@ given-released cl lost u members h set told b a member outside node kept =
     ]
 
 -- no message waits that carries a reference to a member
-none-kept : (cl : Cluster) (lost : ℕ → Bool) (h : List Event) → IsLegal cl h → (b a : Actor) → gifts cl b a h + sum_by (carries_other lost a) (filter (is_to b) (all_sent h)) + sum_by (carries_from lost a) (mail b h) ≤ gave b a h → (m : Message) → IsAmong m (waiting b h) → ¬ IsAmong a m.refs
+none-kept : (cl : Cluster) (lost : ℕ → Bool) (h : List Event) → IsLegal cl h → (b a : Actor) → HasReleased cl lost h b a → (m : Message) → IsAmong m (waiting b h) → ¬ IsAmong a m.refs
 none-kept cl lost h legal b a released m waits carries =
     let weight : Message → ℕ = λ m. tally (same_actor a) m.refs in
     let parts = sum_by-take-drop weight (mail b h) (takes b h) in
@@ -111,7 +117,7 @@ none-kept cl lost h legal b a released m waits carries =
     omega (arith, released, gave-got cl h legal b a, others, carried-split lost a (mail b h), carried-sum a (mail b h), carried-sum a (taken b h), parts, here, tally-member a m.refs carries)
 
 -- none is under way from a node that is not lost
-none-brings : (cl : Cluster) (lost : ℕ → Bool) (h : List Event) → IsLegal cl h → (a : Actor) (m : Message) → gifts cl m.to a h + sum_by (carries_other lost a) (filter (is_to m.to) (all_sent h)) + sum_by (carries_from lost a) (mail m.to h) ≤ gave m.to a h → lost m.from.node ≡ false → IsOnLink h m → ¬ IsAmong a m.refs
+none-brings : (cl : Cluster) (lost : ℕ → Bool) (h : List Event) → IsLegal cl h → (a : Actor) (m : Message) → HasReleased cl lost h m.to a → lost m.from.node ≡ false → IsOnLink h m → ¬ IsAmong a m.refs
 none-brings cl lost h legal a m released kept on carries =
     let b = m.to in
     let under_way = mail-open cl h legal m on (carries_other lost a) in

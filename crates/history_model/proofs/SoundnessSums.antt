@@ -14,16 +14,6 @@ use Rattle.history_model.proofs.Basics.{same_actor-refl}
 -- ---- sums over a list
 
 module _ {X : Type 0} where
-  pub tally-sum : (p : X → Bool) (xs : List X) → tally p xs ≡ sum_by (λ x. cond (p x) 1 0) xs
-  tally-sum p [] = refl
-  tally-sum p (x ∷ xs) =
-      let w : X → ℕ = λ x. cond (p x) 1 0 in
-      let before = tally-sum p xs in
-      let step = sum_by-cons w x xs in
-      let value : cond (p x) (tally p xs + 1) (tally p xs) ≡ cond (p x) 1 0 + tally p xs =
-          elim (p x) as (λ v. cond v (tally p xs + 1) (tally p xs) ≡ cond v 1 0 + tally p xs) [ true ↦ omega arith | false ↦ omega arith ] in
-      omega (arith, before, step, value)
-
   -- the items that pass two tests, as a sum over those that pass the second
   pub tally-filter : (p t : X → Bool) (xs : List X) → tally (λ x. p x && t x) xs ≡ sum_by (λ x. cond (p x) 1 0) (filter t xs)
   tally-filter p t [] = refl
@@ -55,15 +45,20 @@ module _ {X : Type 0} where
           elim (p x) as (λ v. cond (not v) (w x) 0 + cond v (w x) 0 ≡ w x) [ true ↦ omega arith | false ↦ omega arith ] in
       omega (arith, before, fails, passes, all, value)
 
+  -- a sum of ones is the length
   pub sum_by-one : (xs : List X) → sum_by (λ _. 1) xs ≡ length xs
   sum_by-one [] = refl
   sum_by-one (x ∷ xs) = omega (arith, sum_by-one xs, sum_by-cons {X = X} (λ _. 1) x xs)
 
+  -- a sum is no less than what a member weighs
   pub sum_by-member : (w : X → ℕ) (x : X) (xs : List X) → IsAmong x xs → w x ≤ sum_by w xs
   sum_by-member w x [] m = absurd m
   sum_by-member w x (y ∷ ys) (inl e) = omega (arith, sum_by-cons w y ys, ap w e)
   sum_by-member w x (y ∷ ys) (inr m) = omega (arith, sum_by-cons w y ys, sum_by-member w x ys m)
 
+-- ---- references
+
+-- an actor among the references is counted there
 pub tally-member : (a : Actor) (xs : List Actor) → IsAmong a xs → 0 < tally (same_actor a) xs
 tally-member a [] m = absurd m
 tally-member a (b ∷ bs) (inl e) =
@@ -73,6 +68,7 @@ tally-member a (b ∷ bs) (inr m) =
     let before = tally-member a bs m in
     elim (same_actor a b) as (λ v. 0 < cond v (tally (same_actor a) bs + 1) (tally (same_actor a) bs)) [ true ↦ omega arith | false ↦ before ]
 
+-- what messages carry, as a sum over them
 pub carried-sum : (a : Actor) (ms : List Message) → carried a ms ≡ sum_by (λ m. tally (same_actor a) m.refs) ms
 carried-sum a [] = refl
 carried-sum a (m ∷ ms) = omega (arith, carried-sum a ms, sum_by-cons {X = Message} (λ m. tally (same_actor a) m.refs) m ms)

@@ -13,7 +13,7 @@ use Rattle.history_model.specs.Held.{is_note_of, got, gave, held}
 use Rattle.history_model.specs.State.{is_up}
 use Rattle.history_model.specs.Legal.{is_parent, gives_up_parent, IsLegal}
 use Rattle.history_model.specs.Quiescent.{IsQuietSet}
-use Rattle.history_model.proofs.Basics.{and_true, or_true, eqb-refl, not_true, same_actor-refl, same_actor-equal, legal-kept}
+use Rattle.history_model.proofs.Basics.{and_true, or_true, eqb-refl, not_true, same_actor-refl, same_actor-equal, tally-append, legal-kept}
 use Rattle.history_model.proofs.AccountsGrowth.{got-grows}
 use Rattle.history_model.proofs.AccountsTaken.{gave-got}
 
@@ -25,13 +25,8 @@ spawn-gives cl s p two =
     let last : List Note = note_by s (created child s) ∷ [] in
     let supervised : cond (cl.version == 2) last [] ≡ last = ap (λ n. cond (n == 2) last []) two in
     let given : tally test last ≡ 1 = rw (same_actor-refl child, same_actor-refl s) refl in
-    let all : 0 < tally test (cond (cl.version == 2) last []) = omega (arith, ap (tally test) supervised, given) in
-    let second : tally test (cond (cl.version == 2) last []) ≤ tally test (note_by child (created s child) ∷ cond (cl.version == 2) last []) = tally-more test (note_by child (created s child)) (cond (cl.version == 2) last []) in
-    let first = tally-more test (note_by child (created child child)) (note_by child (created s child) ∷ cond (cl.version == 2) last []) in
-    omega (arith, all, second, first)
-  where
-    tally-more : {X : Type 0} (test : X → Bool) (x : X) (xs : List X) → tally test xs ≤ tally test (x ∷ xs)
-    tally-more test x xs = cond_both (test x) (tally test xs + 1) (tally test xs) (λ n. tally test xs ≤ n) (λ _. omega arith) (λ _. omega arith)
+    let parts = tally-append test (note_by child (created child child) ∷ note_by child (created s child) ∷ []) (cond (cl.version == 2) last []) in
+    omega (arith, ap (tally test) supervised, given, parts)
 
 -- what a drop must keep: it is not of the last reference of a child to its parent
 drop-keeps : (cl : Cluster) (b a : Actor) (p : List Event) → cl.version ≡ 2 → IsLegal cl (Drop b a ∷ p) → is_parent a b p ≡ true → gave b a p + 1 < got cl b a p
