@@ -11,8 +11,8 @@ pub mod AccountsTaken
 pub mod FoldSumsKnown
 pub mod FoldSumsDead
 pub mod FoldSumsReached
-pub mod FoldSumsNotes
 pub mod FoldSumsCuts
+pub mod FoldSumsNotes
 pub mod FoldSumsBulletins
 pub mod FoldSumsStreams
 pub mod FoldSumsCounts
