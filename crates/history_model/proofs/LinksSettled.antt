@@ -1,6 +1,6 @@
 -- The nodes that a fold shows as lost are settled: they have crashed, nothing is under way from them to a node outside,
 -- and all that such a node admitted from them is folded.
-use Rattle.std.proofs.Common.{◌≡◌, ◌<◌, ◌+◌, ◌&&◌, ◌||◌, ◌==◌, ℕ, Bool, true, false, not, cond, List, [], ◌∷◌, ◌++◌, length, take, slice_get, option_to_list, flat_map, refl, sym, ◌∙◌, ap, ap₂, subst, inl, inr, arith, append-nil, ltb-true, take-append-drop, length-append, drop}
+use Rattle.std.proofs.Common.{◌≡◌, ◌<◌, ◌+◌, ◌&&◌, ◌||◌, ◌==◌, ℕ, Bool, true, false, not, cond, List, [], ◌∷◌, ◌++◌, length, take, slice_get, option_to_list, flat_map, refl, sym, ◌∙◌, ap, ap₂, subst, inl, inr, arith, append-nil, eq-eqb, ltb-true, ◌↔◌, ◌⊎◌, take-append-drop, length-append, drop}
 use Rattle.std.proofs.lemmas.Bool.{cases_lt, cond-false, or_left, or_right, false_from_ne_true, and_from, true≢false}
 use Rattle.std.proofs.lemmas.List.{take-append-le, take_all}
 use Rattle.std.specs.List.{list_any}
@@ -16,11 +16,10 @@ use Rattle.history_model.specs.Facts.{Fact, message_facts}
 use Rattle.history_model.specs.State.{is_crash, is_up}
 use Rattle.history_model.specs.Streams.{Notice, delta, window_of, final_of, queue, window, stream}
 use Rattle.history_model.specs.Folds.{Fold, fold_to, links_into, final_links, lost_of, is_lost}
-use Rattle.history_model.specs.Graph.{link_facts}
 use Rattle.history_model.specs.Legal.{IsLegal}
 use Rattle.history_model.specs.Settled.{AreSettled, admitted_on}
 use Rattle.history_model.proofs.Basics.{and_true, or_true, not_true, true_or_false, eqb-refl, eqb-equal, legal-kept}
-use Rattle.history_model.proofs.LinksWindows.{link_facts-append, windows-told}
+use Rattle.history_model.proofs.LinksWindows.{link_facts-skip, told_from, windows-told}
 
 -- ---- finals and removals
 
@@ -32,7 +31,8 @@ links_into-append d (delta facts ∷ xs) ys = links_into-append d xs ys
 links_into-append d (window_of s facts ∷ xs) ys = links_into-append d xs ys
 
 -- a bulletin that is no final may be put last
-links_into-skip : (d : ℕ) (xs : List Notice) (n : Notice) (b : Bool) → links_into d (n ∷ []) ≡ [] → links_into d (cond b (xs ++ n ∷ []) xs) ≡ links_into d xs
+links_into-skip : (d : ℕ) (xs : List Notice) (n : Notice) (b : Bool) → links_into d (n ∷ []) ≡ []
+    → links_into d (cond b (xs ++ n ∷ []) xs) ≡ links_into d xs
 links_into-skip d xs n true none = links_into-append d xs (n ∷ []) ∙ ap (λ ls. links_into d xs ++ ls) none ∙ append-nil (links_into d xs)
 links_into-skip d xs n false none = refl
 
@@ -42,6 +42,31 @@ links_into-take d n xs l m =
     subst (λ ys. IsAmong l (links_into d ys)) (take-append-drop n xs)
     (subst (IsAmong l) (sym (links_into-append d (take n xs) (drop n xs))) (IsAmong-append_left l (links_into d (take n xs)) (links_into d (drop n xs)) m))
 
+-- the only member
+final_source : (s d x : ℕ) → IsAmong {A = ℕ × ℕ} (s, d) ((x, d) ∷ []) → s ≡ x
+final_source s d x (inl e) = ap (λ (l : ℕ × ℕ). l.0) e
+final_source s d x (inr none) = absurd none
+
+-- the finals where one is put last, or not
+final_put : (s d x : ℕ) (xs : List Notice) (facts : List Fact) (v : Bool)
+    → IsAmong (s, d) (links_into d (cond v (xs ++ final_of x facts ∷ []) xs)) ↔ ((((x == s) && v) ≡ true) ⊎ IsAmong (s, d) (links_into d xs))
+final_put s d x xs facts true =
+    let joined = links_into-append d xs (final_of x facts ∷ []) in
+    let pair : ℕ → ℕ × ℕ = λ k. (k, d) in (
+      λ m. elim (IsAmong-append_cases (s, d) (links_into d xs) ((x, d) ∷ []) (subst (IsAmong (s, d)) joined m)) [
+        | inl before ↦ inr before
+        | inr last ↦ inl (and_from (x == s) true (eq-eqb x s (sym (final_source s d x last))) refl)
+      ],
+      λ u. subst (IsAmong (s, d)) (sym joined) (elim u [
+        | inl now ↦ IsAmong-append_right (s, d) (links_into d xs) ((x, d) ∷ []) (inl (ap pair (sym (eqb-equal x s (and_true (x == s) true now).0))))
+        | inr before ↦ IsAmong-append_left (s, d) (links_into d xs) ((x, d) ∷ []) before
+      ]),
+    )
+final_put s d x xs facts false = (
+  λ m. inr m,
+  λ u. elim u [ inl now ↦ absurd (true≢false (sym (and_true (x == s) false now).1)) | inr before ↦ before ],
+)
+
 -- a final in d's stream was given by a removal by d
 pub final-closed : (cl : Cluster) (h : List Event) (s d : ℕ) → IsAmong (s, d) (links_into d (stream cl d h)) → is_closed s d h ≡ true
 final-closed cl [] s d m = absurd m
@@ -50,19 +75,15 @@ final-closed cl (Publish k ∷ p) s d m =
 final-closed cl (Window y x ∷ p) s d m =
     final-closed cl p s d (subst (IsAmong (s, d)) (links_into-skip d (stream cl d p) (window_of x (window x y p)) (y == d) refl) m)
 final-closed cl (Remove y x ∷ p) s d m =
-    let earlier = final-closed cl p s d in
-    let final : Notice = final_of x (window x y p) in
-    (elim (y == d) as (λ v. IsAmong (s, d) (links_into d (cond v (stream cl d p ++ final ∷ []) (stream cl d p))) → (((x == s) && v) || is_closed s d p) ≡ true) [
-      | true ↦ λ k. elim (IsAmong-append_cases (s, d) (links_into d (stream cl d p)) ((x, d) ∷ []) (subst (IsAmong (s, d)) (links_into-append d (stream cl d p) (final ∷ [])) k)) [
-        | inl before ↦ or_right ((x == s) && true) (is_closed s d p) (earlier before)
-        | inr last ↦ elim last [
-          | inl e ↦ or_left ((x == s) && true) (is_closed s d p) (and_from (x == s) true (subst (λ k. x == k ≡ true) (sym (ap (λ (l : ℕ × ℕ). l.0) e)) (eqb-refl x)) refl)
-          | inr none ↦ absurd none
-        ]
-      ]
-      | false ↦ λ k. or_right ((x == s) && false) (is_closed s d p) (earlier k)
-    ]) m
+    elim ((final_put s d x (stream cl d p) (window x y p) (y == d)).0 m) [
+      | inl now ↦ or_left ((x == s) && (y == d)) (is_closed s d p) now
+      | inr before ↦ or_right ((x == s) && (y == d)) (is_closed s d p) (final-closed cl p s d before)
+    ]
 final-closed cl (_ ∷ p) s d m = final-closed cl p s d m
+
+-- a folded final too
+pub folded-closed : (cl : Cluster) (h : List Event) (s d n : ℕ) → IsAmong (s, d) (links_into d (take n (stream cl d h))) → is_closed s d h ≡ true
+folded-closed cl h s d n m = final-closed cl h s d (links_into-take d n (stream cl d h) (s, d) m)
 
 -- a removal by d gives a final in d's stream
 pub closed-final : (cl : Cluster) (h : List Event) (s d : ℕ) → is_closed s d h ≡ true → IsAmong (s, d) (links_into d (stream cl d h))
@@ -72,20 +93,10 @@ closed-final cl (Publish k ∷ p) s d t =
 closed-final cl (Window y x ∷ p) s d t =
     subst (IsAmong (s, d)) (sym (links_into-skip d (stream cl d p) (window_of x (window x y p)) (y == d) refl)) (closed-final cl p s d t)
 closed-final cl (Remove y x ∷ p) s d t =
-    let earlier = closed-final cl p s d in
-    let final : Notice = final_of x (window x y p) in
-    let joined = links_into-append d (stream cl d p) (final ∷ []) in
-    let pair : ℕ → ℕ × ℕ = λ k. (k, d) in
-    (elim (y == d) as (λ v. (((x == s) && v) || is_closed s d p) ≡ true → IsAmong (s, d) (links_into d (cond v (stream cl d p ++ final ∷ []) (stream cl d p)))) [
-      | true ↦ λ u. subst (IsAmong (s, d)) (sym joined) (elim (or_true ((x == s) && true) (is_closed s d p) u) [
-        | inl now ↦ IsAmong-append_right (s, d) (links_into d (stream cl d p)) ((x, d) ∷ []) (inl (ap pair (sym (eqb-equal x s (and_true (x == s) true now).0))))
-        | inr before ↦ IsAmong-append_left (s, d) (links_into d (stream cl d p)) ((x, d) ∷ []) (earlier before)
-      ])
-      | false ↦ λ u. elim (or_true ((x == s) && false) (is_closed s d p) u) [
-        | inl now ↦ absurd (true≢false (sym (and_true (x == s) false now).1))
-        | inr before ↦ earlier before
-      ]
-    ]) t
+    (final_put s d x (stream cl d p) (window x y p) (y == d)).1 (elim (or_true ((x == s) && (y == d)) (is_closed s d p) t) [
+      | inl now ↦ inl now
+      | inr before ↦ inr (closed-final cl p s d before)
+    ])
 closed-final cl (_ ∷ p) s d t = closed-final cl p s d t
 
 -- ---- closed links
@@ -96,9 +107,9 @@ link-equal x y s d t = let both = and_true (x == s) (y == d) t in (eqb-equal x s
 
 -- a link that is open is not one that is closed
 not_closed : (p : List Event) (x y s d : ℕ) → not (is_closed x y p) ≡ true → is_closed s d p ≡ true → ((x == s) && (y == d)) ≡ false
-not_closed p x y s d going closed = false_from_ne_true ((x == s) && (y == d)) (λ t.
+not_closed p x y s d opened closed = false_from_ne_true ((x == s) && (y == d)) (λ t.
     let same = link-equal x y s d t in
-    true≢false (sym closed ∙ sym (ap₂ (λ a b. is_closed a b p) same.0 same.1) ∙ not_true (is_closed x y p) going))
+    true≢false (sym closed ∙ sym (ap₂ (λ a b. is_closed a b p) same.0 same.1) ∙ not_true (is_closed x y p) opened))
 
 -- a removed node has crashed
 pub closed-crashed : (cl : Cluster) (h : List Event) → IsLegal cl h → (s d : ℕ) → is_closed s d h ≡ true → is_up s h ≡ false
@@ -133,30 +144,33 @@ closed-window cl (_ ∷ p) legal s d t = closed-window cl p legal.1 s d t
 
 -- one more bulletin, which tells nothing of the link if its final was given
 last_step : (s d n : ℕ) (xs : List Notice) (x : Notice) (b : Bool)
-    → (IsAmong (s, d) (links_into d xs) → b ≡ true → link_facts (λ k. k == s) (x ∷ []) ≡ [])
-    → (IsAmong (s, d) (links_into d (take n xs)) → link_facts (λ k. k == s) (take n xs) ≡ link_facts (λ k. k == s) xs)
+    → (IsAmong (s, d) (links_into d xs) → b ≡ true → told_from s (x ∷ []) ≡ [])
+    → (IsAmong (s, d) (links_into d (take n xs)) → told_from s (take n xs) ≡ told_from s xs)
     → IsAmong (s, d) (links_into d (take n (cond b (xs ++ x ∷ []) xs)))
-    → link_facts (λ k. k == s) (take n (cond b (xs ++ x ∷ []) xs)) ≡ link_facts (λ k. k == s) (cond b (xs ++ x ∷ []) xs)
+    → told_from s (take n (cond b (xs ++ x ∷ []) xs)) ≡ told_from s (cond b (xs ++ x ∷ []) xs)
 last_step s d n xs x false quiet before m = before m
 last_step s d n xs x true quiet before m =
     elim (cases_lt (length xs) n) [
-      | inl whole ↦ ap (link_facts (λ k. k == s)) (take_all n (xs ++ x ∷ []) (omega (arith, whole, length-append xs (x ∷ []))))
+      | inl whole ↦ ap (told_from s) (take_all n (xs ++ x ∷ []) (omega (arith, whole, length-append xs (x ∷ []))))
       | inr part ↦ (
           let same = take-append-le n xs (x ∷ []) part in
           let final = subst (λ ys. IsAmong (s, d) (links_into d ys)) same m in
-          ap (link_facts (λ k. k == s)) same ∙ before final
-          ∙ sym (link_facts-append (λ k. k == s) xs (x ∷ []) ∙ ap (λ ys. link_facts (λ k. k == s) xs ++ ys) (quiet (links_into-take d n xs (s, d) final) refl) ∙ append-nil (link_facts (λ k. k == s) xs)))
+          let nothing = quiet (links_into-take d n xs (s, d) final) refl in
+          ap (told_from s) same ∙ before final ∙ sym (link_facts-skip (λ k. k == s) xs x true nothing))
     ]
 
 -- a bulletin of an open link tells nothing of a closed one
-other_link : (p : List Event) (x y s d : ℕ) (facts : List Fact) → not (is_closed x y p) ≡ true → is_closed s d p ≡ true → y == d ≡ true → cond (x == s) facts [] ≡ []
-other_link p x y s d facts going closed same =
-    let differ : x == s ≡ false = false_from_ne_true (x == s) (λ e. true≢false (sym (and_from (x == s) (y == d) e same) ∙ not_closed p x y s d going closed)) in
+other_link : (p : List Event) (x y s d : ℕ) (facts : List Fact)
+    → not (is_closed x y p) ≡ true → is_closed s d p ≡ true → y == d ≡ true → cond (x == s) facts [] ≡ []
+other_link p x y s d facts opened closed same =
+    let apart = not_closed p x y s d opened closed in
+    let differ : x == s ≡ false = false_from_ne_true (x == s) (λ e. true≢false (sym (and_from (x == s) (y == d) e same) ∙ apart)) in
     cond-false (x == s) facts [] differ
 
+-- what the first n bulletins tell of a link, its final among them, is all that is told of it
 pub final-last : (cl : Cluster) (h : List Event) → IsLegal cl h → (s d n : ℕ) → IsAmong (s, d) (links_into d (take n (stream cl d h)))
-    → link_facts (λ x. x == s) (take n (stream cl d h)) ≡ link_facts (λ x. x == s) (stream cl d h)
-final-last cl [] legal s d n m = ap (link_facts (λ x. x == s)) (take_all n [] (omega arith))
+    → told_from s (take n (stream cl d h)) ≡ told_from s (stream cl d h)
+final-last cl [] legal s d n m = ap (told_from s) (take_all n [] (omega arith))
 final-last cl (Publish k ∷ p) legal s d n m =
     last_step s d n (stream cl d p) (delta (queue cl d p)) (k == d) (λ _ _. refl) (final-last cl p legal.1 s d n) m
 final-last cl (Window y x ∷ p) legal s d n m =
@@ -171,10 +185,10 @@ final-last cl (_ ∷ p) legal s d n m = final-last cl p legal.1 s d n m
 
 -- where the final of a link is folded, so is all that was admitted on it
 pub final-told : (cl : Cluster) (h : List Event) → IsLegal cl h → (s d n : ℕ) → IsAmong (s, d) (links_into d (take n (stream cl d h)))
-    → link_facts (λ x. x == s) (take n (stream cl d h)) ≡ flat_map message_facts (admitted_on s d h)
+    → told_from s (take n (stream cl d h)) ≡ flat_map message_facts (admitted_on s d h)
 final-told cl h legal s d n m =
-    let all = link_facts (λ x. x == s) (stream cl d h) in
-    let empty = closed-window cl h legal s d (final-closed cl h s d (links_into-take d n (stream cl d h) (s, d) m)) in
+    let all = told_from s (stream cl d h) in
+    let empty = closed-window cl h legal s d (folded-closed cl h s d n m) in
     final-last cl h legal s d n m ∙ sym (ap (λ w. all ++ w) empty ∙ append-nil all) ∙ windows-told cl h s d
 
 -- ---- nodes of messages
@@ -208,8 +222,8 @@ sent-below cl (Send f t refs ∷ p) legal s d some =
     let born : t.serial < births t.node p = ltb-true t.serial (births t.node p) kept.1.0 in
     let recipient = births-below cl p legal.1 t.node (omega (arith, born)) in
     let before = sent-below cl p legal.1 s d in
-    let m : Message = record { from = f; to = t; refs = refs } in
-    (elim ((f.node == s) && (t.node == d)) as (λ v. ((f.node == s) && (t.node == d)) ≡ v → 0 < length (cond v (sent s d p ++ m ∷ []) (sent s d p)) → d < cl.nodes) [
+    let longer : List Message = sent s d p ++ record { from = f; to = t; refs = refs } ∷ [] in
+    (elim ((f.node == s) && (t.node == d)) as (λ v. ((f.node == s) && (t.node == d)) ≡ v → 0 < length (cond v longer (sent s d p)) → d < cl.nodes) [
       | true ↦ λ e _. subst (λ k. k < cl.nodes) (link-equal f.node t.node s d e).1 recipient
       | false ↦ λ _ l. before l
     ]) refl some
@@ -223,6 +237,7 @@ not_empty (x ∷ xs) k m e = omega arith
 -- ---- the lost nodes
 
 module _ {A B : Type 0} (f : A → List B) where
+  -- the members of joined lists are the members of one of them
   IsAmong-flat_map : (y : B) (x : A) (xs : List A) → IsAmong x xs → IsAmong y (f x) → IsAmong y (flat_map f xs)
   IsAmong-flat_map y x [] m k = absurd m
   IsAmong-flat_map y x (z ∷ xs) (inl e) k = IsAmong-append_left y (f z) (flat_map f xs) (subst (λ w. IsAmong y (f w)) e k)
@@ -249,6 +264,7 @@ pub final_links-member : (cl : Cluster) (f : Fold) (s d : ℕ) → d < cl.nodes 
 final_links-member cl f s d below m =
     IsAmong-flat_map (λ k. links_into k (f k)) (s, d) d (nodes_below cl.nodes) (IsAmong-range d 0 cl.nodes (omega arith) (omega arith)) m
 
+-- and nothing else
 pub final_links-from : (cl : Cluster) (f : Fold) (s d : ℕ) → IsAmong (s, d) (final_links cl f) → (d < cl.nodes) × IsAmong (s, d) (links_into d (f d))
 final_links-from cl f s d m =
     let found = IsAmong-from_flat_map (λ k. links_into k (f k)) (s, d) (nodes_below cl.nodes) m in
@@ -256,34 +272,38 @@ final_links-from cl f s d m =
     let same : d ≡ found.0 = links_into-end found.0 (f found.0) (s, d) found.2 in
     (omega (arith, below, same), subst (λ k. IsAmong (s, d) (links_into k (f k))) (sym same) found.2)
 
+-- the test for a lost node against the list of them
 pub lost-among : (cl : Cluster) (f : Fold) (n : ℕ) → is_lost cl f n ≡ true → IsAmong n (lost_of cl f)
 lost-among cl f n t =
     let found = list_any-true (λ x. n == x) (lost_of cl f) t in
     subst (λ x. IsAmong x (lost_of cl f)) (sym (eqb-equal n found.0 found.2)) found.1
 
+-- and the list against the test
 pub among-lost : (cl : Cluster) (f : Fold) (n : ℕ) → IsAmong n (lost_of cl f) → is_lost cl f n ≡ true
 among-lost cl f n m = list_any-member (λ x. n == x) n (lost_of cl f) m (eqb-refl n)
 
 -- the final of the link from a lost node to each other node is folded
-pub lost-final : (cl : Cluster) (f : Fold) (s d : ℕ) → is_lost cl f s ≡ true → d < cl.nodes → is_lost cl f d ≡ false → IsAmong (s, d) (links_into d (f d))
+pub lost-final : (cl : Cluster) (f : Fold) (s d : ℕ) → is_lost cl f s ≡ true → d < cl.nodes → is_lost cl f d ≡ false
+    → IsAmong (s, d) (links_into d (f d))
 lost-final cl f s d lost below out =
     let all = lost_nodes-lost cl.nodes (final_links cl f) s (lost-among cl f s lost) in
     (final_links-from cl f s d (all.2 d below (λ m. true≢false (sym (among-lost cl f d m) ∙ out)))).1
 
+-- so it is at any first bulletins of the streams
 pub settled : (cl : Cluster) (h : List Event) → IsLegal cl h → (c : ℕ → ℕ) → AreSettled cl c (is_lost cl (fold_to cl c h)) h
 settled cl h legal c =
     let f = fold_to cl c h in record {
       crashed = λ n lost.
           let removed = (lost_nodes-lost cl.nodes (final_links cl f) n (lost-among cl f n lost)).1 in
           let final = (final_links-from cl f n removed.0 removed.1).1 in
-          closed-crashed cl h legal n removed.0 (final-closed cl h n removed.0 (links_into-take removed.0 (c removed.0) (stream cl removed.0 h) (n, removed.0) final));
+          closed-crashed cl h legal n removed.0 (folded-closed cl h n removed.0 (c removed.0) final);
       closed = λ m on_link lost.
           let below = sent-below cl h legal m.from.node m.to.node (not_empty (sent m.from.node m.to.node h) on_link.0 m on_link.1) in
           elim (true_or_false (is_lost cl f m.to.node)) [
             | inl inside ↦ inside
             | inr out ↦ (
                 let final = lost-final cl f m.from.node m.to.node lost below out in
-                let closed = final-closed cl h m.from.node m.to.node (links_into-take m.to.node (c m.to.node) (stream cl m.to.node h) (m.from.node, m.to.node) final) in
+                let closed = folded-closed cl h m.from.node m.to.node (c m.to.node) final in
                 absurd (true≢false (sym closed ∙ on_link.2)))
           ];
       told = λ s d below lost out. final-told cl h legal s d (c d) (lost-final cl f s d lost below out);

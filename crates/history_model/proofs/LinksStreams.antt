@@ -12,6 +12,7 @@ use Rattle.history_model.proofs.Basics.{and_true, eqb-equal, eqb-refl}
 
 -- ---- streams
 
+-- one more bulletin, or none
 one_more : (b : Bool) (xs ys more : List Notice) (n : Notice) → xs ≡ ys ++ more → (rest : List Notice) × (cond b (xs ++ n ∷ []) xs ≡ ys ++ rest)
 one_more true xs ys more n e = (more ++ n ∷ [], ap (λ zs. zs ++ n ∷ []) e ∙ append_assoc ys more (n ∷ []))
 one_more false xs ys more n e = (more, e)
@@ -24,6 +25,7 @@ stream-grows cl o (Window d s ∷ q) h = let before = stream-grows cl o q h in o
 stream-grows cl o (Remove d s ∷ q) h = let before = stream-grows cl o q h in one_more (d == o) _ _ before.0 (final_of s (window s d (q ++ h))) before.1
 stream-grows cl o (_ ∷ q) h = stream-grows cl o q h
 
+-- so it is at least as long
 pub stream-longer : (cl : Cluster) (o : ℕ) (q h : List Event) → length (stream cl o h) ≤ length (stream cl o (q ++ h))
 stream-longer cl o q h =
     let grows = stream-grows cl o q h in
@@ -31,6 +33,7 @@ stream-longer cl o q h =
 
 -- ---- runs
 
+-- a run is no longer than allowed
 run_of-bounded : (test : ℕ → Bool) (n : ℕ) → run_of test n ≤ n
 run_of-bounded test zero = omega arith
 run_of-bounded test (suc n) =
