@@ -1,6 +1,5 @@
 pub mod Basics
 pub mod Sums
-pub mod SoundnessSums
 pub mod AccountsBirths
 pub mod AccountsGrowth
 pub mod AccountsNotes
@@ -22,10 +21,11 @@ pub mod LinksSettled
 pub mod LinksSums
 pub mod LinksMail
 pub mod LinksLost
-pub mod Supervision
+pub mod StabilityState
+pub mod SoundnessSums
 pub mod SoundnessTold
 pub mod SoundnessBounds
-pub mod StabilityState
 pub mod SoundnessStep
 pub mod SoundnessQuiet
 pub mod Soundness
+pub mod Supervision
