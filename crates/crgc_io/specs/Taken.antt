@@ -4,14 +4,16 @@ use Rattle.std.specs.Io.KnownBytes.{Consumes, Appends}
 use Rattle.crgc_io.specs.declared.whole.ReadAll.{ReadAll}
 use Rattle.crgc_io.specs.declared.whole.ReadAll.TheVariants.{ReadFault, TooLong, NoMemory}
 
--- bs went from the front of the bytes left to the end of the bytes given, where these are told
-pub record Takes (left left' given given' : Option (List ℕ)) (bs : List ℕ) : Type 0 where
-  pub consumed : Consumes left left' bs
-  pub recorded : Appends given given' bs
+-- bs went from the front of the bytes that the old source had left to the end of the bytes that the
+-- new one has given, where the source tells these
+pub record Takes {S : Type 0} (left given : S → Option (List ℕ)) (old new : S) (bs : List ℕ)
+    : Type 0 where
+  pub consumed : Consumes (left old) (left new) bs
+  pub recorded : Appends (given old) (given new) bs
 
--- how many bytes were taken before this answer: more than the limit exactly where the answer is `TooLong`, or where
--- memory is short
-abbrev pub IsCountFor : ReadAll → ℕ → ℕ → Type 0
-IsCountFor ReadFault limit count = count ≤ limit
-IsCountFor TooLong limit count = count ≡ limit + 1
-IsCountFor NoMemory limit count = count ≤ limit + 1
+-- how many bytes were taken before this answer: one more than the limit where the input is too
+-- long, at most the limit before a fault, and one or the other where memory is short
+abbrev pub IsCountAt : ReadAll → ℕ → ℕ → Type 0
+IsCountAt ReadFault limit count = count ≤ limit
+IsCountAt TooLong limit count = count ≡ limit + 1
+IsCountAt NoMemory limit count = count ≤ limit + 1

@@ -1,6 +1,6 @@
 //! The calls of a source or a sink over memory: which fail, and how many bytes one moves.
 ghost use Rattle.std.specs.Prelude.{◌≡◌, ℕ, ◌<◌, ◌≤◌, ◌⊎◌, ◌↔◌, Contains, IfOk, IsErr, IsTrue, is_err};
-ghost use Rattle.crgc_io.specs.Memory.{after_call};
+ghost use Rattle.crgc_io.specs.Memory.{after_call, calls_from};
 
 use crate::traits::Failed;
 use std::marker::Model;
@@ -20,7 +20,12 @@ impl Model for MemoryCalls {
 
     ghost Value = { Calls };
 
-    ghost view = { λ c. record { piece = c.piece; failing = c.failing.items; made = c.made; faults = c.faults } };
+    ghost view = { λ c. record {
+        piece = c.piece;
+        failing = c.failing.items;
+        made = c.made;
+        faults = c.faults
+    } };
 
     ghost invariant = { λ c. 0 < c.piece };
 }
@@ -29,7 +34,7 @@ impl MemoryCalls {
     /// No call was made.
     pub fn new(piece: usize, failing: Vec<u32>) -> MemoryCalls
         requires { 0 < piece }
-        ensures { result ≡ record { piece = piece; failing = failing.items; made = 0; faults = 0 } }
+        ensures { result ≡ calls_from piece failing.items }
     {
         MemoryCalls {
             failing,
@@ -39,12 +44,13 @@ impl MemoryCalls {
         }
     }
 
-    /// Makes a call, and answers how many bytes it moves at most. It fails exactly where it is refused, or where its
-    /// number, from 0, is among those that are to fail. Linear in their count.
+    /// Makes a call, and answers how many bytes it moves at most. It fails exactly where it is
+    /// refused, or where its number, from 0, is among those that are to fail. Linear in their count.
     pub fn make(&mut self, is_refused: bool) -> Result<usize, Failed>
         ensures piece { IfOk result (λ n. n ≡ self.old.piece) }
         ensures positive { IfOk result (λ n. 0 < n) }
-        ensures fails { IsErr result ↔ (IsTrue is_refused ⊎ Contains self.old.failing self.old.made) }
+        ensures fails { IsErr result
+            ↔ (IsTrue is_refused ⊎ Contains self.old.failing self.old.made) }
         ensures counts { self.new ≡ after_call (is_err result) self.old }
         ensures never_falls { self.old.faults ≤ self.new.faults }
     {

@@ -1,11 +1,15 @@
 //! The program's edges: std's readers and writers as a source and a sink.
-ghost use Rattle.std.specs.Prelude.{◌≡◌, None};
+ghost use Rattle.std.specs.Prelude.{◌≡◌, ◌<◌, ◌≤◌, None, IfOk, OnErr, if◌then◌else◌, is_err, length};
+ghost use Rattle.std.specs.Io.{ReadsAtMost, WritesAtMost};
+ghost use Rattle.std.specs.Io.KnownBytes.{ReadConsumes, WriteAppends};
+ghost use Rattle.crgc_io.specs.Edges.{source_inner, source_faults, sink_inner, sink_faults};
+ghost use Rattle.crgc_io.specs.Fault.{CountRose, raised};
 
 use crate::traits::{Failed, Sink, Source};
 use std::io::{Read, Write};
 
-/// A source over a reader of std. Each error of a read counts as a fault. It tells the bytes left where the reader's
-/// contract tells them.
+/// A source over a reader of std. Each error of a read counts as a fault. It tells the bytes left
+/// where the reader's contract tells them.
 #[derive(Drop)]
 pub struct StdSource<R> {
     inner: R,
@@ -15,21 +19,30 @@ pub struct StdSource<R> {
 impl<R: Read> StdSource<R> {
     /// The source over this reader, with no fault counted.
     pub fn new(inner: R) -> StdSource<R>
-        ensures left { ⟦<StdSource<R> as Source>⟧.left result ≡ R.remaining inner }
-        ensures faults { ⟦<StdSource<R> as Source>⟧.faults result ≡ 0 }
+        ensures inner { source_inner result ≡ inner }
+        ensures faults { source_faults result ≡ 0 }
     {
         StdSource { inner, faults: 0 }
     }
 }
 
 impl<R: Read> Source for StdSource<R> {
-    ghost left = { λ s. R.remaining s.inner };
+    ghost left = { λ s. R.remaining (source_inner s) };
 
     ghost given = { λ _. None };
 
-    ghost faults = { λ s. s.faults };
+    ghost faults = { source_faults };
 
-    fn read(&mut self, buf: &mut [u8]) -> Result<usize, Failed> {
+    fn read(&mut self, buf: &mut [u8]) -> Result<usize, Failed>
+        ensures bound { ReadsAtMost result buf.new }
+        ensures bytes { ReadConsumes (R.remaining (source_inner self.old))
+            (R.remaining (source_inner self.new)) result buf.new }
+        ensures never_falls { source_faults self.old ≤ source_faults self.new }
+        ensures failed { OnErr result
+            (CountRose (source_faults self.old) (source_faults self.new)) }
+        ensures counts { let before = source_faults self.old in
+            source_faults self.new ≡ (if is_err result then raised before else before) }
+    {
         match self.inner.read(buf) {
             Ok(n) => Ok(n),
             Err(_) => {
@@ -40,8 +53,9 @@ impl<R: Read> Source for StdSource<R> {
     }
 }
 
-/// A sink over a writer of std. Each error of a write counts as a fault, and so does a write that takes nothing of a
-/// piece that is not empty. It tells the bytes held where the writer's contract tells them.
+/// A sink over a writer of std. Each error of a write counts as a fault, and so does a write that
+/// takes nothing of a piece that is not empty. It tells the bytes held where the writer's contract
+/// tells them.
 #[derive(Drop)]
 pub struct StdSink<W> {
     inner: W,
@@ -51,19 +65,28 @@ pub struct StdSink<W> {
 impl<W: Write> StdSink<W> {
     /// The sink over this writer, with no fault counted.
     pub fn new(inner: W) -> StdSink<W>
-        ensures held { ⟦<StdSink<W> as Sink>⟧.held result ≡ W.contents inner }
-        ensures faults { ⟦<StdSink<W> as Sink>⟧.faults result ≡ 0 }
+        ensures inner { sink_inner result ≡ inner }
+        ensures faults { sink_faults result ≡ 0 }
     {
         StdSink { inner, faults: 0 }
     }
 }
 
 impl<W: Write> Sink for StdSink<W> {
-    ghost held = { λ s. W.contents s.inner };
+    ghost held = { λ s. W.contents (sink_inner s) };
 
-    ghost faults = { λ s. s.faults };
+    ghost faults = { sink_faults };
 
-    fn write(&mut self, piece: &[u8]) -> Result<usize, Failed> {
+    fn write(&mut self, piece: &[u8]) -> Result<usize, Failed>
+        ensures bound { WritesAtMost result piece.now }
+        ensures progress { IfOk result (λ n. 0 < length piece.now → 0 < n) }
+        ensures bytes { WriteAppends (W.contents (sink_inner self.old))
+            (W.contents (sink_inner self.new)) result piece.now }
+        ensures never_falls { sink_faults self.old ≤ sink_faults self.new }
+        ensures failed { OnErr result (CountRose (sink_faults self.old) (sink_faults self.new)) }
+        ensures counts { let before = sink_faults self.old in
+            sink_faults self.new ≡ (if is_err result then raised before else before) }
+    {
         match self.inner.write(piece) {
             Ok(n) if n > 0 || piece.is_empty() => Ok(n),
             _ => {

@@ -1,11 +1,13 @@
-//! Where the program's bytes come from and go to: sources and sinks that count their faults, and gates at which the
-//! turns of actors begin.
+//! Where the program's bytes come from and go to: sources and sinks that count their faults, and
+//! gates at which the turns of actors begin.
 #![tactic(auto)]
 
 mod calls;
 mod edges;
 mod gate;
 mod memory;
+#[cfg(test)]
+mod tests;
 mod traits;
 mod whole;
 

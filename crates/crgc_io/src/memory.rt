@@ -1,9 +1,10 @@
-//! A source and a sink over memory, for tests: which bytes come in which call, and which calls fail, is known.
+//! A source and a sink over memory, for tests: which bytes come in which call, and which calls
+//! fail, is known.
 ghost use Rattle.std.specs.Prelude.{◌≡◌, ℕ, ◌-◌, ◌<◌, ◌≤◌, ◌⊎◌, ◌↔◌, ◌++◌, [], Some, Contains, IfOk, OnErr, IsErr, length, take, drop, min, is_err};
 ghost use Rattle.std.specs.Io.{ReadsAtMost, WritesAtMost};
 ghost use Rattle.std.specs.Io.KnownBytes.{ReadConsumes, WriteAppends};
 ghost use Rattle.crgc_io.specs.Fault.{CountRose};
-ghost use Rattle.crgc_io.specs.Memory.{after_call};
+ghost use Rattle.crgc_io.specs.Memory.{after_call, calls_from};
 
 use crate::calls::MemoryCalls;
 use crate::traits::{Failed, Sink, Source};
@@ -25,16 +26,23 @@ impl Model for MemorySource {
 
     ghost Value = { Reading };
 
-    ghost view = { λ s. record { given = take s.position s.bytes.items; left = drop s.position s.bytes.items; calls = s.calls } };
+    ghost view = { λ s. record {
+        given = take s.position s.bytes.items;
+        left = drop s.position s.bytes.items;
+        calls = s.calls
+    } };
 
     ghost invariant = { λ s. s.position ≤ vec_len s.bytes };
 }
 
 impl MemorySource {
-    /// A source of these bytes, at most `piece` of them a read. The reads whose number, from 0, is in `failing` fail.
+    /// A source of these bytes, at most `piece` of them a read. The reads whose number, from 0, is
+    /// in `failing` fail.
     pub fn new(bytes: Vec<u8>, piece: usize, failing: Vec<u32>) -> MemorySource
         requires { 0 < piece }
-        ensures { result ≡ record { given = []; left = bytes.items; calls = record { piece = piece; failing = failing.items; made = 0; faults = 0 } } }
+        ensures { result ≡ record {
+            given = []; left = bytes.items; calls = calls_from piece failing.items
+        } }
     {
         MemorySource {
             bytes,
@@ -59,7 +67,8 @@ impl Source for MemorySource {
         ensures failed { OnErr result (CountRose self.old.calls.faults self.new.calls.faults) }
         ensures fails { IsErr result ↔ Contains self.old.calls.failing self.old.calls.made }
         ensures counts { self.new.calls ≡ after_call (is_err result) self.old.calls }
-        ensures count { IfOk result (λ n. n ≡ min (min (length self.old.left) (length buf.old)) self.old.calls.piece) }
+        ensures count { IfOk result (λ n.
+            n ≡ min (min (length self.old.left) (length buf.old)) self.old.calls.piece) }
         ensures copied { IfOk result (λ n. buf.new ≡ take n self.old.left ++ drop n buf.old) }
         ensures untouched { OnErr result (buf.new ≡ buf.old) }
     {
@@ -76,6 +85,7 @@ impl Source for MemorySource {
 // Copies as many bytes as both have, but at most so many, and answers how many.
 fn copy_front(from: &[u8], to: &mut [u8], most: usize) -> usize
     ensures count { result ≡ min (min (length from.now) (length to.old)) most }
+    ensures front { take result to.new ≡ take result from.now }
     ensures copied { to.new ≡ take result from.now ++ drop result to.old }
 {
     let count = from.len().min(to.len()).min(most);
@@ -103,8 +113,8 @@ impl Model for MemorySink {
 }
 
 impl MemorySink {
-    /// A sink with room for so many bytes, which takes at most `piece` of them a write. The writes whose number, from
-    /// 0, is in `failing` fail.
+    /// A sink with room for so many bytes, at most `piece` of them a write. The writes whose number,
+    /// from 0, is in `failing` fail, and so do those that find no room. Writes take no memory.
     pub fn new(
         alloc: Global,
         room: usize,
@@ -112,7 +122,9 @@ impl MemorySink {
         failing: Vec<u32>,
     ) -> Result<MemorySink, NoMemory>
         requires { 0 < piece }
-        ensures { IfOk result (λ s. s ≡ record { held = []; room = room; calls = record { piece = piece; failing = failing.items; made = 0; faults = 0 } }) }
+        ensures { IfOk result (λ s. s ≡ record {
+            held = []; room = room; calls = calls_from piece failing.items
+        }) }
     {
         match Vec::with_capacity(alloc, room) {
             Ok(bytes) => Ok(MemorySink {
@@ -143,10 +155,13 @@ impl Sink for MemorySink {
         ensures bytes { WriteAppends (Some self.old.held) (Some self.new.held) result piece.now }
         ensures never_falls { self.old.calls.faults ≤ self.new.calls.faults }
         ensures failed { OnErr result (CountRose self.old.calls.faults self.new.calls.faults) }
-        ensures fails { IsErr result ↔ (((0 < length piece.now) × (length self.old.held ≡ self.old.room)) ⊎ Contains self.old.calls.failing self.old.calls.made) }
+        ensures fails { IsErr result
+            ↔ (((0 < length piece.now) × (length self.old.held ≡ self.old.room))
+            ⊎ Contains self.old.calls.failing self.old.calls.made) }
         ensures counts { self.new.calls ≡ after_call (is_err result) self.old.calls }
         ensures room { self.new.room ≡ self.old.room }
-        ensures count { IfOk result (λ n. n ≡ min (min (length piece.now) self.old.calls.piece) (self.old.room - length self.old.held)) }
+        ensures count { IfOk result (λ n. n ≡ min (min (length piece.now) self.old.calls.piece)
+            (self.old.room - length self.old.held)) }
     {
         let room = self.room - self.bytes.len();
         let most = match self.calls.make(room == 0 && !piece.is_empty()) {

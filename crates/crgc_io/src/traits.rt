@@ -19,7 +19,8 @@ pub trait Source {
     // how many faults it has counted; the count stands still at 18,446,744,073,709,551,615
     ghost faults: { Self → ℕ };
 
-    /// Reads into the front of `buf`, and answers how many bytes it gave. 0 for a `buf` that is not empty is the end.
+    /// Reads into the front of `buf`, and answers how many bytes it gave. 0 for a `buf` that is not
+    /// empty is the end.
     fn read(&mut self, buf: &mut [u8]) -> Result<usize, Failed>
         ensures bound { ReadsAtMost result buf.new }
         ensures bytes { ReadConsumes (left self.old) (left self.new) result buf.new }
@@ -36,7 +37,8 @@ pub trait Sink {
     // how many faults it has counted; the count stands still at 18,446,744,073,709,551,615
     ghost faults: { Self → ℕ };
 
-    /// Takes bytes from the front of `piece`, and answers how many: at least one, where `piece` is not empty.
+    /// Takes bytes from the front of `piece`, and answers how many: at least one, where `piece` is
+    /// not empty.
     fn write(&mut self, piece: &[u8]) -> Result<usize, Failed>
         ensures bound { WritesAtMost result piece.now }
         ensures progress { IfOk result (λ n. 0 < length piece.now → 0 < n) }

@@ -2,7 +2,7 @@
 ghost use Rattle.std.specs.Prelude.{◌≡◌, ℕ, ◌+◌, ◌<◌, ◌≤◌, ◌++◌, List, Option, length, take, IfOk, IfErr, OnOk, Err, vec_len};
 ghost use Rattle.std.specs.Io.KnownBytes.{Appends, IsAtEnd};
 ghost use Rattle.crgc_io.specs.Fault.{CountRose};
-ghost use Rattle.crgc_io.specs.Taken.{Takes, IsCountFor};
+ghost use Rattle.crgc_io.specs.Taken.{Takes, IsCountAt};
 
 use crate::traits::{Failed, Sink, Source};
 use std::alloc::Global;
@@ -27,20 +27,17 @@ pub struct WriteFault {
     pub written: u64,
 }
 
-/// All bytes up to the end of the source. It reads in pieces of 64 KiB, and takes at most `limit + 1` bytes, whatever
-/// the source gives. Linear time.
-pub fn read_all<S: Source>(
-    alloc: Global,
-    source: &mut S,
-    limit: usize,
-) -> Result<Vec<u8>, ReadAll>
+/// All bytes up to the end of the source. It reads in pieces of 64 KiB, and takes at most
+/// `limit + 1` bytes, whatever the source gives. Linear time.
+pub fn read_all<S: Source>(alloc: Global, source: &mut S, limit: usize) -> Result<Vec<u8>, ReadAll>
     requires { limit < usize.MAX }
-    ensures ok { IfOk result (λ v. Takes (S.left source.old) (S.left source.new) (S.given source.old) (S.given source.new) v.items) }
+    ensures ok { IfOk result (λ v. Takes S.left S.given source.old source.new v.items) }
     ensures end { IfOk result (λ _. IsAtEnd (S.left source.new)) }
     ensures within { IfOk result (λ v. vec_len v ≤ limit) }
-    ensures err { IfErr result (λ e. (bs : List ℕ) × Takes (S.left source.old) (S.left source.new) (S.given source.old) (S.given source.new) bs
-        × IsCountFor e limit (length bs)) }
-    ensures fault { result ≡ Err ReadAll.ReadFault → CountRose (S.faults source.old) (S.faults source.new) }
+    ensures err { IfErr result (λ e. (bs : List ℕ)
+        × Takes S.left S.given source.old source.new bs × IsCountAt e limit (length bs)) }
+    ensures fault { result ≡ Err ReadAll.ReadFault
+        → CountRose (S.faults source.old) (S.faults source.new) }
     ensures never_falls { S.faults source.old ≤ S.faults source.new }
 {
     match vec![in alloc; 0; PIECE] {
@@ -58,12 +55,13 @@ fn read_through<S: Source>(
 ) -> Result<Vec<u8>, ReadAll>
     requires limit { limit < usize.MAX }
     requires room { 0 < length piece.old }
-    ensures ok { IfOk result (λ v. Takes (S.left source.old) (S.left source.new) (S.given source.old) (S.given source.new) v.items) }
+    ensures ok { IfOk result (λ v. Takes S.left S.given source.old source.new v.items) }
     ensures end { IfOk result (λ _. IsAtEnd (S.left source.new)) }
     ensures within { IfOk result (λ v. vec_len v ≤ limit) }
-    ensures err { IfErr result (λ e. (bs : List ℕ) × Takes (S.left source.old) (S.left source.new) (S.given source.old) (S.given source.new) bs
-        × IsCountFor e limit (length bs)) }
-    ensures fault { result ≡ Err ReadAll.ReadFault → CountRose (S.faults source.old) (S.faults source.new) }
+    ensures err { IfErr result (λ e. (bs : List ℕ)
+        × Takes S.left S.given source.old source.new bs × IsCountAt e limit (length bs)) }
+    ensures fault { result ≡ Err ReadAll.ReadFault
+        → CountRose (S.faults source.old) (S.faults source.new) }
     ensures never_falls { S.faults source.old ≤ S.faults source.new }
 {
     let mut bytes = Vec::new(alloc);
@@ -87,12 +85,17 @@ fn read_piece<S: Source>(
     requires limit { limit < usize.MAX }
     requires within { vec_len bytes.old ≤ limit }
     requires room { 0 < length piece.old }
-    ensures ok { IfOk result (λ n. (bs : List ℕ) × Takes (S.left source.old) (S.left source.new) (S.given source.old) (S.given source.new) bs
-        × (bytes.new.items ≡ bytes.old.items ++ bs) × (length bs ≡ n) × (vec_len bytes.new ≤ limit + 1)) }
+    ensures ok { IfOk result (λ n. (bs : List ℕ)
+        × Takes S.left S.given source.old source.new bs
+        × (bytes.new.items ≡ bytes.old.items ++ bs)
+        × (length bs ≡ n)
+        × (vec_len bytes.new ≤ limit + 1)) }
     ensures end { result ≡ Ok 0 → IsAtEnd (S.left source.new) }
-    ensures err { IfErr result (λ e. (bs : List ℕ) × Takes (S.left source.old) (S.left source.new) (S.given source.old) (S.given source.new) bs
-        × IsCountFor e limit (vec_len bytes.old + length bs)) }
-    ensures fault { result ≡ Err ReadAll.ReadFault → CountRose (S.faults source.old) (S.faults source.new) }
+    ensures err { IfErr result (λ e. (bs : List ℕ)
+        × Takes S.left S.given source.old source.new bs
+        × IsCountAt e limit (vec_len bytes.old + length bs)) }
+    ensures fault { result ≡ Err ReadAll.ReadFault
+        → CountRose (S.faults source.old) (S.faults source.new) }
     ensures never_falls { S.faults source.old ≤ S.faults source.new }
 {
     let room = piece.len().min(limit - bytes.len() + 1);
@@ -109,7 +112,8 @@ fn read_piece<S: Source>(
 /// Writes all bytes, in pieces of 64 KiB. Linear time.
 pub fn write_all<K: Sink>(sink: &mut K, bytes: &[u8]) -> Result<(), WriteFault>
     ensures ok { OnOk result (Appends (K.held sink.old) (K.held sink.new) bytes.now) }
-    ensures err { IfErr result (λ e. Appends (K.held sink.old) (K.held sink.new) (take e.written bytes.now)) }
+    ensures err { IfErr result (λ e.
+        Appends (K.held sink.old) (K.held sink.new) (take e.written bytes.now)) }
     ensures before_end { IfErr result (λ e. e.written < length bytes.now) }
     ensures fault { IfErr result (λ _. CountRose (K.faults sink.old) (K.faults sink.new)) }
     ensures never_falls { K.faults sink.old ≤ K.faults sink.new }
