@@ -1,6 +1,6 @@
 -- Two bounds at each moment of the history: a member past its cut has taken all its mail, and whoever is no member holds
 -- no reference to one. `SoundnessStep` uses them at each event, `SoundnessQuiet` at the end.
-use Rattle.std.proofs.Common.{◌≡◌, ◌<◌, ◌≤◌, ◌+◌, ◌&&◌, ◌⊎◌, ℕ, Bool, true, false, not, cond, List, [], ◌∷◌, ◌++◌, length, take, sum_by, filter, IsTrue, IsFalse, refl, sym, ◌∙◌, ap, subst, inl, inr, arith}
+use Rattle.std.proofs.Common.{◌≡◌, ◌<◌, ◌≤◌, ◌+◌, ◌⊎◌, ℕ, Bool, false, not, cond, List, ◌++◌, length, sum_by, filter, sym, ◌∙◌, ap, inl, inr, arith}
 use Rattle.std.proofs.lemmas.List.Sums.{sum_by-take-le}
 use Rattle.crgc_ids.specs.Actor.{Actor}
 use Rattle.crgc_ids.specs.Members.{IsAmong}
@@ -11,13 +11,13 @@ use Rattle.history_model.specs.Messages.{Message, is_to, mail, takes, taken}
 use Rattle.history_model.specs.Held.{carried, gifts, got, gave}
 use Rattle.history_model.specs.Legal.{IsLegal}
 use Rattle.history_model.proofs.Basics.{legal-before}
-use Rattle.history_model.proofs.Sums.{all_sent, noted_sum, told_sum}
+use Rattle.history_model.proofs.Sums.{all_sent, noted_sum}
 use Rattle.history_model.proofs.AccountsGrowth.{mail-grows}
 use Rattle.history_model.proofs.AccountsMail.{mail-sent}
 use Rattle.history_model.proofs.AccountsNotes.{carries_from, sent-noted, created-noted}
 use Rattle.history_model.proofs.FoldSumsNotes.{told-grows}
 use Rattle.history_model.proofs.SoundnessSums.{tally-filter, sum_by-split, sum_by-one, carried-sum}
-use Rattle.history_model.proofs.SoundnessTold.{is_receipt, is_release, is_sending, is_creation, counts_lost, IsToldSet, AreTold, received-below, released-below}
+use Rattle.history_model.proofs.SoundnessTold.{is_sending, is_creation, counts_lost, IsToldSet, AreTold, received-below, released-below}
 
 -- 1 for a message from a node that is not lost
 abbrev pub counts_other : (ℕ → Bool) → Message → ℕ

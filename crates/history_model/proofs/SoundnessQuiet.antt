@@ -1,6 +1,6 @@
 -- At the end of the history the members are a quiet set: they are at rest, no live message goes to them or carries a
 -- reference to one, and nobody else holds one. `Soundness` applies this to the dead of a fold.
-use Rattle.std.proofs.Common.{◌≡◌, ◌<◌, ◌≤◌, ◌+◌, ◌-◌, ◌&&◌, ◌||◌, ◌⊎◌, ℕ, Bool, true, false, not, cond, List, [], ◌∷◌, ◌++◌, length, drop, sum_by, filter, IsTrue, IsFalse, refl, sym, ◌∙◌, ap, subst, inl, inr, arith}
+use Rattle.std.proofs.Common.{◌≡◌, ◌<◌, ◌≤◌, ◌+◌, ◌||◌, ℕ, Bool, true, false, not, cond, List, [], sum_by, filter, IsTrue, refl, sym, ◌∙◌, ap, subst, inl, inr, arith}
 use Rattle.std.proofs.lemmas.Bool.{false≢true}
 use Rattle.std.proofs.lemmas.List.{drop_all}
 use Rattle.std.proofs.lemmas.List.Sums.{sum_by-take-drop}
@@ -10,20 +10,20 @@ use Rattle.history_model.specs.declared.events.Event.{Event}
 use Rattle.history_model.specs.Tally.{tally}
 use Rattle.history_model.specs.Cluster.{Cluster, same_actor, is_born}
 use Rattle.history_model.specs.Messages.{Message, is_to, mail, message_at, takes, taken, waiting}
-use Rattle.history_model.specs.Facts.{Fact, Note, created, is_created, names}
+use Rattle.history_model.specs.Facts.{Fact, created, is_created, names}
 use Rattle.history_model.specs.Held.{carried, gifts, got, gave, held}
 use Rattle.history_model.specs.State.{is_up}
 use Rattle.history_model.specs.Legal.{IsLegal}
 use Rattle.history_model.specs.Quiescent.{IsLive, IsOnLink, IsQuietSet}
 use Rattle.history_model.specs.Settled.{AreSettled}
 use Rattle.history_model.proofs.Basics.{and_true, true_or_false}
-use Rattle.history_model.proofs.Sums.{all_sent, noted_sum, told_sum}
+use Rattle.history_model.proofs.Sums.{all_sent}
 use Rattle.history_model.proofs.AccountsBirths.{born-on_node, mail-born, message_at-among, noted-born, sent-among, sent-born, waiting-among}
 use Rattle.history_model.proofs.AccountsMail.{mail-open, mail-sent}
 use Rattle.history_model.proofs.AccountsNotes.{carries_from, created-noted}
 use Rattle.history_model.proofs.AccountsTaken.{takes-mail, gave-got}
 use Rattle.history_model.proofs.SoundnessSums.{carried-sum, sum_by-member, tally-member}
-use Rattle.history_model.proofs.SoundnessTold.{is_creation, is_sending, counts_lost, IsToldSet, AreTold, received-below, released-below}
+use Rattle.history_model.proofs.SoundnessTold.{IsToldSet, AreTold, received-below, released-below}
 use Rattle.history_model.proofs.FoldSumsKnown.{created-names}
 use Rattle.history_model.proofs.SoundnessBounds.{carries_other, counts_other, carried-split, creations-given, mail-split, no_hold, no_take, sendings-sent, taken-carried}
 use Rattle.history_model.proofs.SoundnessStep.{told-always}
@@ -36,9 +36,9 @@ live-born cl h legal m live =
     elim live.1 [
       | inl waits ↦ (mail-born cl h legal m.to m (waiting-among m.to h m waits)).1
       | inr on ↦ (
-        let there : IsAmong m (message_at m.from.node m.to.node on.0 h) = subst (IsAmong m) (sym on.1) (inl refl) in
-        let sent = sent-among m.from.node m.to.node h m (message_at-among m.from.node m.to.node on.0 h m there) in
-        (sent-born cl h legal m sent.0).1)
+          let there : IsAmong m (message_at m.from.node m.to.node on.0 h) = subst (IsAmong m) (sym on.1) (inl refl) in
+          let sent = sent-among m.from.node m.to.node h m (message_at-among m.from.node m.to.node on.0 h m there) in
+          (sent-born cl h legal m sent.0).1)
     ]
 
 -- who got a reference is born

@@ -1,6 +1,6 @@
 -- One event more: what is noted past the cuts gives nobody access to a member, and members past their cuts stay at rest.
 -- So every moment of the history has what `SoundnessTold` calls told, and `SoundnessQuiet` takes the last one.
-use Rattle.std.proofs.Common.{◌≡◌, ◌<◌, ◌≤◌, ◌+◌, ◌-◌, ◌&&◌, ◌==◌, ◌⊎◌, ℕ, Bool, true, false, not, cond, List, [], ◌∷◌, ◌++◌, length, map, drop, IsTrue, IsFalse, refl, sym, ◌∙◌, ap, subst, inl, inr, arith, append_assoc}
+use Rattle.std.proofs.Common.{◌≡◌, ◌<◌, ◌≤◌, ℕ, Bool, true, false, not, List, [], ◌∷◌, ◌++◌, length, map, IsFalse, refl, sym, ◌∙◌, subst, inl, inr, arith, append_assoc}
 use Rattle.std.proofs.lemmas.Bool.{cases_lt, cond_both, false≢true}
 use Rattle.std.proofs.lemmas.List.{drop_all}
 use Rattle.crgc_ids.specs.Actor.{Actor}
@@ -10,11 +10,10 @@ use Rattle.history_model.specs.declared.events.Event.TheVariants.{Seed, Tie, Wak
 use Rattle.history_model.specs.Cluster.{Cluster, same_actor, newborn, is_born}
 use Rattle.history_model.specs.Messages.{mail, takes, waiting}
 use Rattle.history_model.specs.Facts.{Fact, received, sent_to, created, released, Note, note_by, notes, message_facts, is_sent_to, is_created}
-use Rattle.history_model.specs.Held.{got, gave, held}
+use Rattle.history_model.specs.Held.{held}
 use Rattle.history_model.specs.State.{is_busy, is_root}
 use Rattle.history_model.specs.Legal.{IsLegal}
 use Rattle.history_model.proofs.Basics.{and_true, not_true, same_actor-equal, legal-kept, legal-before}
-use Rattle.history_model.proofs.Sums.{noted_sum, told_sum}
 use Rattle.history_model.proofs.AccountsBirths.{Each, each-none, each-one, each-more, each-map, each-notes_of_spawn, born-grows, born-on_node, newborn-not_born}
 use Rattle.history_model.proofs.FoldSumsNotes.{told-next}
 use Rattle.history_model.proofs.StabilityState.{legal-send, some_waits}
@@ -138,18 +137,18 @@ told-step cl lost u members q e p legal set told =
     let set_p = subst (λ h. IsToldSet cl h lost u members) shift set in
     let harmless = notes-harmless cl lost u members (q ++ (e ∷ [])) e p legal_p now set_p told in
     let below : (a : Actor) → IsAmong a members → (x : Note) → IsAmong x (notes cl e p) → lost x.by.node ≡ false → GivesAccess a x.fact → length p < u x.by = λ a member x among out access.
-      elim (cases_lt (length p) (u x.by)) [ inl cut ↦ cut | inr past ↦ absurd (harmless x among out past a member access) ] in
+    elim (cases_lt (length p) (u x.by)) [ inl cut ↦ cut | inr past ↦ absurd (harmless x among out past a member access) ] in
     record {
       rest = λ a member past. elim (cases_lt (length p) (u a)) [
         | inl cut ↦ set.at_cut a member q (e ∷ p) refl (omega (arith, cut, past))
         | inr before ↦ stays-at_rest cl e p now a (told.rest a member before) (no_take cl lost u members (q ++ (e ∷ [])) p legal_p set_p told a member before)
       ];
       sendings = λ a member. told-next cl u (is_sending lost a) e p (λ x among test.
-      let both = and_true (not (lost x.by.node)) (is_sent_to a x.fact) test in
-      below a member x among (not_true (lost x.by.node) both.0) (sent-access a x.fact both.1)) (told.sendings a member);
+          let both = and_true (not (lost x.by.node)) (is_sent_to a x.fact) test in
+          below a member x among (not_true (lost x.by.node) both.0) (sent-access a x.fact both.1)) (told.sendings a member);
       creations = λ b a member. told-next cl u (is_creation lost b a) e p (λ x among test.
-      let both = and_true (not (lost x.by.node)) (is_created b a x.fact) test in
-      below a member x among (not_true (lost x.by.node) both.0) (created-access b a x.fact both.1)) (told.creations b a member);
+          let both = and_true (not (lost x.by.node)) (is_created b a x.fact) test in
+          below a member x among (not_true (lost x.by.node) both.0) (created-access b a x.fact both.1)) (told.creations b a member);
     }
 
 -- so it holds at every moment

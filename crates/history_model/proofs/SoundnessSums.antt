@@ -1,7 +1,7 @@
 -- Sums over messages, split by where the messages come from. The bounds of soundness compare them with what is told.
 use Rattle.std.proofs.Common.{◌≡◌, ◌<◌, ◌≤◌, ◌+◌, ◌&&◌, ℕ, Bool, true, false, not, List, [], ◌∷◌, length, refl, sym, ◌∙◌, ap, inl, inr, arith}
 use Rattle.std.proofs.lemmas.List.Sums.{sum_by-cons}
-use Rattle.std.specs.Prelude.{cond, if◌then◌else◌}
+use Rattle.std.specs.Prelude.{cond}
 use Rattle.std.specs.List.{filter, sum_by}
 use Rattle.crgc_ids.specs.Actor.{Actor}
 use Rattle.crgc_ids.specs.Members.{IsAmong}
@@ -24,13 +24,13 @@ module _ {X : Type 0} where
       let step = sum_by-cons w x (filter t xs) in
       elim (t x) as (λ v. cond (p x && v) (n + 1) n ≡ sum_by w (cond v (x ∷ filter t xs) (filter t xs))) [
         | true ↦
-          (let value : cond (p x && true) (n + 1) n ≡ cond (p x) 1 0 + n =
-              elim (p x) as (λ v. cond (v && true) (n + 1) n ≡ cond v 1 0 + n) [ true ↦ omega arith | false ↦ omega arith ] in
-          omega (arith, before, step, value))
+            (let value : cond (p x && true) (n + 1) n ≡ cond (p x) 1 0 + n =
+            elim (p x) as (λ v. cond (v && true) (n + 1) n ≡ cond v 1 0 + n) [ true ↦ omega arith | false ↦ omega arith ] in
+            omega (arith, before, step, value))
         | false ↦
-          (let value : cond (p x && false) (n + 1) n ≡ n =
-              elim (p x) as (λ v. cond (v && false) (n + 1) n ≡ n) [ true ↦ refl | false ↦ refl ] in
-          value ∙ before)
+            (let value : cond (p x && false) (n + 1) n ≡ n =
+            elim (p x) as (λ v. cond (v && false) (n + 1) n ≡ n) [ true ↦ refl | false ↦ refl ] in
+            value ∙ before)
       ]
 
   -- a sum is that over the items that fail a test and that over those that pass it
@@ -42,7 +42,7 @@ module _ {X : Type 0} where
       let passes = sum_by-cons (λ x. cond (p x) (w x) 0) x xs in
       let all = sum_by-cons w x xs in
       let value : cond (not (p x)) (w x) 0 + cond (p x) (w x) 0 ≡ w x =
-          elim (p x) as (λ v. cond (not v) (w x) 0 + cond v (w x) 0 ≡ w x) [ true ↦ omega arith | false ↦ omega arith ] in
+      elim (p x) as (λ v. cond (not v) (w x) 0 + cond v (w x) 0 ≡ w x) [ true ↦ omega arith | false ↦ omega arith ] in
       omega (arith, before, fails, passes, all, value)
 
   -- a sum of ones is the length

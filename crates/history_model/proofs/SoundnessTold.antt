@@ -1,6 +1,6 @@
 -- What the core of soundness stands on: a history, a set of actors, and the positions below which what actors noted is
 -- told. Every moment of the history is judged with these; `SoundnessBounds` gives what they bound there.
-use Rattle.std.proofs.Common.{◌≡◌, ◌<◌, ◌≤◌, ◌+◌, ◌&&◌, ◌⊎◌, ℕ, Bool, true, false, not, cond, List, [], ◌∷◌, ◌++◌, length, sum_by, IsTrue, IsFalse, refl, sym, ◌∙◌, ap, subst, arith}
+use Rattle.std.proofs.Common.{◌≡◌, ◌<◌, ◌≤◌, ◌+◌, ◌&&◌, ◌⊎◌, ℕ, Bool, false, not, cond, List, ◌++◌, length, sum_by, IsTrue, IsFalse, sym, subst, arith}
 use Rattle.crgc_ids.specs.Actor.{Actor}
 use Rattle.crgc_ids.specs.Members.{IsAmong}
 use Rattle.history_model.specs.declared.events.Event.{Event}

@@ -1,6 +1,6 @@
 -- In version 2 a child always holds its parent: the parent gives it a reference when it spawns it, and it may not give up
 -- the last one. So a quiet set holds, with each parent, its children on nodes that are up.
-use Rattle.std.proofs.Common.{◌≡◌, ◌<◌, ◌≤◌, ◌+◌, ◌-◌, ◌==◌, ◌&&◌, ◌||◌, ◌⊎◌, ℕ, Bool, true, false, not, cond, IsTrue, List, [], ◌∷◌, ◌++◌, refl, sym, ◌∙◌, ap, subst, inl, inr, arith}
+use Rattle.std.proofs.Common.{◌≡◌, ◌<◌, ◌+◌, ◌==◌, ◌&&◌, true, false, cond, IsTrue, List, [], ◌∷◌, refl, sym, ◌∙◌, ap, subst, inl, inr, arith}
 use Rattle.std.proofs.lemmas.Bool.{cond_both, false≢true, ltb-true}
 use Rattle.crgc_ids.specs.Actor.{Actor}
 use Rattle.crgc_ids.specs.Members.{IsAmong}
@@ -13,7 +13,7 @@ use Rattle.history_model.specs.Held.{is_note_of, got, gave, held}
 use Rattle.history_model.specs.State.{is_up}
 use Rattle.history_model.specs.Legal.{is_parent, gives_up_parent, IsLegal}
 use Rattle.history_model.specs.Quiescent.{IsQuietSet}
-use Rattle.history_model.proofs.Basics.{and_true, or_true, eqb-refl, not_true, same_actor-refl, same_actor-equal, tally-append, legal-kept}
+use Rattle.history_model.proofs.Basics.{and_true, or_true, not_true, same_actor-refl, same_actor-equal, tally-append, legal-kept}
 use Rattle.history_model.proofs.AccountsGrowth.{got-grows}
 use Rattle.history_model.proofs.AccountsTaken.{gave-got}
 
@@ -46,11 +46,11 @@ parent-held cl (Spawn s ∷ p) two legal b a parent =
     let before = gave-got cl p legal.1 in
     let given = spawn-gives cl s p two in
     let new : (same_actor s a && same_actor child b) ≡ true → gave b a (Spawn s ∷ p) < got cl b a (Spawn s ∷ p) = λ same.
-      let both = and_true (same_actor s a) (same_actor child b) same in
-      let given_here : 0 < tally (is_note_of b a) (notes cl (Spawn s) p) =
-        subst (λ c. 0 < tally (is_note_of c a) (notes cl (Spawn s) p)) (same_actor-equal child b both.1)
-        (subst (λ c. 0 < tally (is_note_of child c) (notes cl (Spawn s) p)) (same_actor-equal s a both.0) given) in
-      omega (arith, before b a, given_here) in
+    let both = and_true (same_actor s a) (same_actor child b) same in
+    let given_here : 0 < tally (is_note_of b a) (notes cl (Spawn s) p) =
+    subst (λ c. 0 < tally (is_note_of c a) (notes cl (Spawn s) p)) (same_actor-equal child b both.1)
+    (subst (λ c. 0 < tally (is_note_of child c) (notes cl (Spawn s) p)) (same_actor-equal s a both.0) given) in
+    omega (arith, before b a, given_here) in
     elim (or_true (same_actor s a && same_actor child b) (is_parent a b p) parent) [
       | inl same ↦ new same
       | inr earlier ↦ omega (arith, parent-held cl p two legal.1 b a earlier, got-grows cl b a (Spawn s ∷ []) p)
