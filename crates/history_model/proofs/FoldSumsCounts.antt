@@ -1,13 +1,13 @@
 -- The counts of a fold of a legal history are sums of the notes below the cuts.
 use Rattle.std.proofs.Common.{◌≡◌, ◌<◌, ◌≤◌, ◌+◌, ◌&&◌, ◌||◌, ℕ, zero, suc, Bool, true, false, cond, not, List, [], ◌∷◌, ◌++◌, length, refl, sym, ◌∙◌, ap, subst, inl, inr, arith}
-use Rattle.std.proofs.lemmas.Bool.{cases_lt, false≢true}
-use Rattle.std.proofs.lemmas.Bool.Decides.{Decides-ltb}
+use Rattle.std.proofs.lemmas.Bool.{and_right, cases_lt, false_from_ne_true, le-ltb, ltb-true}
 use Rattle.std.specs.List.{flat_map, range_with_len}
 use Rattle.std.specs.Prelude.{◌==◌, nat_lt}
 use Rattle.crgc_ids.specs.Actor.{Actor}
-use Rattle.crgc_ids.specs.LostNodes.{has_node, nodes_below}
+use Rattle.crgc_ids.specs.Nodes.{has_node, nodes_below}
 use Rattle.crgc_ids.specs.Members.{IsAmong}
-use Rattle.crgc_ids.proofs.MembersLaws.{IsAmong-from_range, IsAmong-range, list_any-member, list_any-true}
+use Rattle.crgc_ids.proofs.MembersLaws.{IsAmong-from_range, IsAmong-range}
+use Rattle.crgc_ids.proofs.NodesLaws.{has_node-from_true, has_node-member}
 use Rattle.history_model.specs.declared.events.Event.{Event}
 use Rattle.history_model.specs.declared.events.Event.TheVariants.{Publish}
 use Rattle.history_model.specs.Tally.{tally}
@@ -20,7 +20,7 @@ use Rattle.history_model.specs.Streams.{stream}
 use Rattle.history_model.proofs.Basics.{eqb-equal, eqb-refl, legal-kept, tally-append, true_or_false}
 use Rattle.history_model.proofs.Sums.{flush_cut, publish_cut, told_cut, told_sum}
 use Rattle.history_model.proofs.FoldSumsNotes.{told-none, told-same}
-use Rattle.history_model.proofs.FoldSumsCuts.{and_false, below_false, flush_cut-below}
+use Rattle.history_model.proofs.FoldSumsCuts.{flush_cut-below}
 use Rattle.history_model.proofs.FoldSumsStreams.{deltas-told, same-passing}
 
 -- ---- nodes outside the cluster publish nothing
@@ -28,7 +28,7 @@ use Rattle.history_model.proofs.FoldSumsStreams.{deltas-told, same-passing}
 publish_cut-outside : (cl : Cluster) (o n : ℕ) (h : List Event) → IsLegal cl h → cl.nodes ≤ o → publish_cut cl o n h ≡ 0
 publish_cut-outside cl o n [] legal l = refl
 publish_cut-outside cl o n (Publish m ∷ p) legal l =
-    let inside = (Decides-ltb m cl.nodes).0 (legal-kept cl (Publish m) p legal).0 in
+    let inside = ltb-true m cl.nodes (legal-kept cl (Publish m) p legal).0 in
     let before = publish_cut-outside cl o n p legal.1 l in
     elim (true_or_false (m == o)) [
       | inl same ↦ (let e = eqb-equal m o same in absurd (omega arith))
@@ -78,16 +78,10 @@ either_step false d s none = omega arith
 -- no node of the range after a is a
 apart : (a n k : ℕ) → (k == a) ≡ true → has_node (range_with_len (a + 1) n) k ≡ false
 apart a n k same =
-    elim (true_or_false (has_node (range_with_len (a + 1) n) k)) [
-      | inl later ↦ (
-        let found = list_any-true (λ x. k == x) (range_with_len (a + 1) n) later in
-        let above = IsAmong-from_range found.0 (a + 1) n found.1 in
-        let first = eqb-equal k a same in
-        let second = eqb-equal k found.0 found.2 in
-        absurd (omega arith)
-      )
-      | inr none ↦ none
-    ]
+    false_from_ne_true (has_node (range_with_len (a + 1) n) k) (λ later.
+      let above = IsAmong-from_range k (a + 1) n (has_node-from_true (range_with_len (a + 1) n) k later) in
+      let first = eqb-equal k a same in
+      absurd (omega arith))
 
 module _ (cl : Cluster) (u : Actor → ℕ) (h : List Event) (t : Fact → Bool) (s : Note → Bool) (pieces : ℕ → List Fact) where
   -- what one node tells of the notes that pass, for each node
@@ -119,7 +113,7 @@ module _ (cl : Cluster) (h : List Event) (c : ℕ → ℕ) (lost : ℕ → Bool)
   piece-lost o gone =
       let none : (x : Note) → ((x.by.node == o) && counts x) ≡ false = λ x.
         elim (true_or_false (x.by.node == o)) [
-          | inl on ↦ and_false (x.by.node == o) (counts x) (ap (λ v. not v && t x.fact) (ap lost (eqb-equal x.by.node o on) ∙ gone))
+          | inl on ↦ and_right (x.by.node == o) (counts x) (ap (λ v. not v && t x.fact) (ap lost (eqb-equal x.by.node o on) ∙ gone))
           | inr off ↦ ap (λ v. v && counts x) off
         ] in
       ap (λ v. tally t (cond v [] (delta_facts (fold_to cl c h o)))) gone
@@ -135,8 +129,8 @@ module _ (cl : Cluster) (h : List Event) (c : ℕ → ℕ) (lost : ℕ → Bool)
           ∙ ap (λ v. nat_lt k (told_cut cl c h x.by) && ((x.by.node == o) && (not v && t x.fact))) (sym (ap lost node ∙ out))
         )
         | inr off ↦
-            and_false (nat_lt k (flush_cut x.by (publish_cut cl o (c o) h) h)) ((x.by.node == o) && t x.fact) (ap (λ v. v && t x.fact) off)
-            ∙ sym (and_false (nat_lt k (told_cut cl c h x.by)) ((x.by.node == o) && counts x) (ap (λ v. v && counts x) off))
+            and_right (nat_lt k (flush_cut x.by (publish_cut cl o (c o) h) h)) ((x.by.node == o) && t x.fact) (ap (λ v. v && t x.fact) off)
+            ∙ sym (and_right (nat_lt k (told_cut cl c h x.by)) ((x.by.node == o) && counts x) (ap (λ v. v && counts x) off))
       ]
 
   piece-told : ((a : Actor) (g : Flags) → t (flagged a g) ≡ false) → IsEach cl (told_cut cl c h) h t counts piece
@@ -152,10 +146,10 @@ module _ (cl : Cluster) (h : List Event) (c : ℕ → ℕ) (lost : ℕ → Bool)
   inside legal k x =
       elim (cases_lt x.by.node cl.nodes) [
         | inl l ↦ ap (λ v. nat_lt k (told_cut cl c h x.by) && (v && counts x))
-            (list_any-member (λ n. x.by.node == n) x.by.node (nodes_below cl.nodes) (IsAmong-range x.by.node 0 cl.nodes (omega arith) (omega arith)) (eqb-refl x.by.node))
+            (has_node-member (nodes_below cl.nodes) x.by.node (IsAmong-range x.by.node 0 cl.nodes (omega arith) (omega arith)))
         | inr m ↦ (
           let none = told_cut-outside cl h c x.by legal m in
-          let untold = below_false k (told_cut cl c h x.by) (omega arith) in
+          let untold = le-ltb k (told_cut cl c h x.by) (omega arith) in
           ap (λ v. v && (has_node (nodes_below cl.nodes) x.by.node && counts x)) untold ∙ ap (λ v. v && counts x) (sym untold)
         )
       ]

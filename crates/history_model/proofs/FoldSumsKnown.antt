@@ -1,10 +1,9 @@
 -- The known actors of a fold, and what holds of every positive edge.
 use Rattle.std.proofs.Common.{◌≡◌, ◌<◌, ◌+◌, ◌&&◌, ◌||◌, ◌↔◌, ◌⊎◌, ℕ, Bool, true, false, cond, List, [], ◌∷◌, ◌++◌, refl, sym, ◌∙◌, ap, subst, inl, inr, arith}
-use Rattle.std.proofs.lemmas.Bool.{false≢true}
-use Rattle.std.proofs.lemmas.Bool.Decides.{Decides-ltb}
+use Rattle.std.proofs.lemmas.Bool.{false≢true, ltb-true, or_left, or_right}
 use Rattle.std.specs.List.{flat_map}
 use Rattle.crgc_ids.specs.Actor.{Actor}
-use Rattle.crgc_ids.specs.LostNodes.{nodes_below}
+use Rattle.crgc_ids.specs.Nodes.{nodes_below}
 use Rattle.crgc_ids.specs.Members.{IsAmong}
 use Rattle.crgc_ids.proofs.MembersLaws.{IsAmong-append_cases, IsAmong-append_left, IsAmong-append_right, IsAmong-from_range, IsAmong-range, list_any-member, list_any-true}
 use Rattle.history_model.specs.Tally.{tally}
@@ -94,15 +93,11 @@ one-named a b = (
   λ h. elim h [ inl e ↦ subst (λ c. same_actor c a ≡ true) e (same_actor-refl a) | inr k ↦ absurd k ],
 )
 
-or_right : (a b : Bool) → b ≡ true → (a || b) ≡ true
-or_right true b t = refl
-or_right false b t = t
-
 two-named : (a b c : Actor) → ((same_actor b a || same_actor c a) ≡ true) ↔ IsAmong a (b ∷ c ∷ [])
 two-named a b c = (
   λ t. elim (or_true (same_actor b a) (same_actor c a) t) [ inl l ↦ inl (sym (same_actor-equal b a l)) | inr r ↦ inr (inl (sym (same_actor-equal c a r))) ],
   λ h. elim h [
-    | inl e ↦ ap (λ v. v || same_actor c a) ((one-named a b).1 (inl e))
+    | inl e ↦ or_left (same_actor b a) (same_actor c a) ((one-named a b).1 (inl e))
     | inr k ↦ or_right (same_actor b a) (same_actor c a) ((one-named a c).1 k)
   ],
 )
@@ -177,7 +172,7 @@ pub edge-known : (cl : Cluster) (lost : ℕ → Bool) (f : Fold) (b a : Actor) �
 edge-known cl lost f b a edge =
     let Both : Type 0 = IsAmong b (known_actors cl f) × IsAmong a (known_actors cl f) in
     let less : released_count cl f b a < created_count cl lost f b a + carried_count cl lost f b a =
-      (Decides-ltb (released_count cl f b a) (created_count cl lost f b a + carried_count cl lost f b a)).0 edge in
+      ltb-true (released_count cl f b a) (created_count cl lost f b a + carried_count cl lost f b a) edge in
     let told : ℕ → List Fact = λ o. cond (lost o) [] (delta_facts (f o)) in
     let admitted : ℕ → List Fact = λ o. link_facts lost (f o) in
     let from_told : 0 < created_count cl lost f b a → Both = λ l. (
