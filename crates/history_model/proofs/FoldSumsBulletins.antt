@@ -91,13 +91,13 @@ module _ (cl : Cluster) (o : ℕ) {X : Type 0} (join : X → X → X) (value : L
       let s : List Notice = stream cl o p in
       let q : List Fact = queue cl o p in
       let at_end : until (suc (length p)) (Publish m ∷ p) ≡ until (length p) (Publish m ∷ p) =
-        laws.other (Publish m) p refl ∙ sym (laws.later (length p) (Publish m) p (omega arith)) in
+      laws.other (Publish m) p refl ∙ sym (laws.later (length p) (Publish m) p (omega arith)) in
       (elim (m == o) as (λ v. length (cond v (s ++ delta q ∷ []) s) ≤ n → until (suc (length p)) (Publish m ∷ p) ≡ join (until (cond (v && nat_lt (length s) n) (length p) (cut p)) (Publish m ∷ p)) (value (cond v [] q))) [
         | true ↦ λ more. (
-          let longer = length-append s (delta q ∷ []) in
-          at_end ∙ sym (laws.none (until (length p) (Publish m ∷ p)))
-          ∙ ap (λ w. join (until (cond w (length p) (cut p)) (Publish m ∷ p)) (value [])) (sym (lt-ltb (length s) n (omega arith)))
-        )
+            let longer = length-append s (delta q ∷ []) in
+            at_end ∙ sym (laws.none (until (length p) (Publish m ∷ p)))
+            ∙ ap (λ w. join (until (cond w (length p) (cut p)) (Publish m ∷ p)) (value [])) (sym (lt-ltb (length s) n (omega arith)))
+            )
         | false ↦ λ _. queue-stays (Publish m) p (value q) refl before
       ]) l
 
@@ -128,9 +128,9 @@ module _ (cl : Cluster) (o : ℕ) {X : Type 0} (join : X → X → X) (value : L
       let s : List Notice = stream cl o p in
       let q : List Fact = queue cl o p in
       let whole : length s < n → told (s ++ delta q ∷ []) ≡ until (length p) (Publish m ∷ p) = λ l.
-        ap value (taken_more n s (delta q) l) ∙ ap (λ y. value (delta_facts (take n s) ++ y)) (append-nil q)
-        ∙ laws.append (delta_facts (take n s)) q ∙ ap (λ y. join y (value q)) before
-        ∙ sym (queue-value p (omega arith)) ∙ sym (laws.later (length p) (Publish m) p (omega arith)) in
+      ap value (taken_more n s (delta q) l) ∙ ap (λ y. value (delta_facts (take n s) ++ y)) (append-nil q)
+      ∙ laws.append (delta_facts (take n s)) q ∙ ap (λ y. join y (value q)) before
+      ∙ sym (queue-value p (omega arith)) ∙ sym (laws.later (length p) (Publish m) p (omega arith)) in
       let Goal : Bool → Type 0 = λ w. nat_lt (length s) n ≡ w → told (s ++ delta q ∷ []) ≡ until (cond w (length p) (cut p)) (Publish m ∷ p) in
       let goal : Goal (nat_lt (length s) n) = elim (nat_lt (length s) n) as Goal [
         | true ↦ λ t. whole (ltb-true (length s) n t)

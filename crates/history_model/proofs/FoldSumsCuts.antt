@@ -58,9 +58,9 @@ module _ {X : Type 0} (none : X) (get : List Event → X) (a : Actor) where
   last_flush-end t (e ∷ p) l =
       let low : length p < suc (length p) = omega arith in
       let tests : nat_lt (length p) t ≡ nat_lt (length p) (suc (length p)) =
-        lt-ltb (length p) t (omega arith) ∙ sym (lt-ltb (length p) (suc (length p)) low) in
+      lt-ltb (length p) t (omega arith) ∙ sym (lt-ltb (length p) (suc (length p)) low) in
       let before : last_flush none get a t p ≡ last_flush none get a (suc (length p)) p =
-        last_flush-end t p (omega arith) ∙ sym (last_flush-end (suc (length p)) p (omega arith)) in
+      last_flush-end t p (omega arith) ∙ sym (last_flush-end (suc (length p)) p (omega arith)) in
       ap (λ v. cond (is_flush_of a e && v) (get p) (last_flush none get a t p)) tests
       ∙ ap (λ x. cond (is_flush_of a e && nat_lt (length p) (suc (length p))) (get p) x) before
 
@@ -95,9 +95,9 @@ flush-here a t b p g before =
     let Here : Bool → Type 0 = λ v. (same_actor b a && nat_lt (length p) t) ≡ v → cond v (Some (flags_at a p)) (flags_cut a t p) ≡ Some g → IsFlushAt a t (Flush b ∷ p) (cond v (length p) (flush_cut a t p)) g in
     let here : Here (same_actor b a && nat_lt (length p) t) = elim (same_actor b a && nat_lt (length p) t) as Here [
       | true ↦ λ tests e. (
-        let both = and_true (same_actor b a) (nat_lt (length p) t) tests in
-        ([], p, ap (λ c. Flush c ∷ p) (same_actor-equal b a both.0), refl, ltb-true (length p) t both.1, (cc))
-      )
+          let both = and_true (same_actor b a) (nat_lt (length p) t) tests in
+          ([], p, ap (λ c. Flush c ∷ p) (same_actor-equal b a both.0), refl, ltb-true (length p) t both.1, (cc))
+          )
       | false ↦ λ _ e. (let found = before e in (Flush b ∷ found.0, found.1, ap (λ l. Flush b ∷ l) found.2, found.3, found.4, found.5))
     ] in
     here refl

@@ -1,10 +1,10 @@
 -- The dead of a fold: what holds of each, that they are closed under positive edges from outside the lost nodes, and
 -- that they are the greatest such set.
-use Rattle.std.proofs.Common.{◌≡◌, ◌+◌, ◌&&◌, ◌||◌, ◌⊎◌, ◌==◌, ℕ, Bool, true, false, not, List, [], ◌∷◌, refl, sym, ◌∙◌, ap, subst, inl, inr}
+use Rattle.std.proofs.Common.{◌≡◌, ◌+◌, ◌&&◌, ◌||◌, ℕ, Bool, true, false, not, List, refl, sym, ap}
 use Rattle.std.proofs.lemmas.Bool.{and_from, eqb-true, false≢true, or_parts}
 use Rattle.std.specs.Prelude.{Option, Some, None}
 use Rattle.crgc_ids.specs.Actor.{Actor}
-use Rattle.crgc_ids.specs.Greatest.{AreFit, IsMonotone}
+use Rattle.crgc_ids.specs.Greatest.{IsMonotone}
 use Rattle.crgc_ids.specs.Members.{IsAmong, IsPart}
 use Rattle.crgc_ids.proofs.GreatestLaws.{greatest-contains, greatest-fit, greatest-part}
 use Rattle.crgc_ids.proofs.MembersLaws.{IsAmong-filter, IsAmong-from_filter, list_all-members, list_all-true}
@@ -12,7 +12,7 @@ use Rattle.history_model.specs.Cluster.{Cluster}
 use Rattle.history_model.specs.Facts.{Flags}
 use Rattle.history_model.specs.Folds.{Fold}
 use Rattle.history_model.specs.Graph.{admitted_count, candidates, dead, has_edge, holds_actor, is_balanced, is_pseudoroot, is_unreached, known_actors, may_act, own_flags, received_count, told_count}
-use Rattle.history_model.proofs.Basics.{and_true, not_true, or_true}
+use Rattle.history_model.proofs.Basics.{and_true, not_true}
 use Rattle.history_model.proofs.FoldSumsKnown.{edge-known, holds-among}
 
 -- ---- tests

@@ -1,21 +1,17 @@
 -- The last flags of an actor in logs and entries.
-use Rattle.std.proofs.Common.{◌≡◌, ◌<◌, ◌≤◌, ◌+◌, ◌&&◌, ℕ, suc, Bool, true, false, cond, List, [], ◌∷◌, ◌++◌, length, take, refl, sym, ◌∙◌, ap, subst, inl, inr, arith}
-use Rattle.std.proofs.lemmas.Bool.{and_right, false≢true, le-ltb, lt-ltb}
-use Rattle.std.proofs.lemmas.List.{append-nil}
-use Rattle.std.specs.Prelude.{◌==◌, nat_lt, Option, Some, None, unwrap_or}
+use Rattle.std.proofs.Common.{◌≡◌, suc, Bool, true, false, cond, List, [], ◌∷◌, ◌++◌, length, refl, sym, ◌∙◌, ap, inl, inr, arith}
+use Rattle.std.specs.Prelude.{Option, Some, None, unwrap_or}
 use Rattle.crgc_ids.specs.Actor.{Actor}
 use Rattle.crgc_ids.specs.Members.{IsAmong}
 use Rattle.history_model.specs.declared.events.Event.{Event}
-use Rattle.history_model.specs.declared.events.Event.TheVariants.{Seed, Tie, Take, Spawn, Send, Drop, Flush}
-use Rattle.history_model.specs.Tally.{tally}
+use Rattle.history_model.specs.declared.events.Event.TheVariants.{Flush}
 use Rattle.history_model.specs.Cluster.{Cluster, same_actor}
-use Rattle.history_model.specs.Facts.{Flags, Fact, received, sent_to, created, released, flagged, is_flagged, Note, notes}
-use Rattle.history_model.specs.Streams.{entry, facts_by, flags_at, log, stream}
-use Rattle.history_model.specs.Graph.{delta_facts, last_flags}
-use Rattle.history_model.proofs.Basics.{eqb-refl, same_actor-equal, same_actor-refl, same_actor-sym, tally-append, true_or_false}
-use Rattle.history_model.proofs.Sums.{flags_cut, flush_cut, publish_cut, told_sum}
+use Rattle.history_model.specs.Facts.{Flags, Fact, flagged, is_flagged, Note, notes}
+use Rattle.history_model.specs.Streams.{entry, facts_by, flags_at, log}
+use Rattle.history_model.specs.Graph.{last_flags}
+use Rattle.history_model.proofs.Basics.{same_actor-equal, true_or_false}
 use Rattle.history_model.proofs.FoldSumsNotes.{notes-kinds}
-use Rattle.history_model.proofs.FoldSumsCuts.{flags_cut-last, flush_cut-last, flush_cut-within, is_flush_of, last_flush, last_flush-end, last_flush-here, last_flush-later, last_flush-other, some_flags}
+use Rattle.history_model.proofs.FoldSumsCuts.{is_flush_of, last_flush, last_flush-here, some_flags}
 use Rattle.history_model.proofs.FoldSumsCuts.{last_flush-skip}
 use Rattle.history_model.proofs.FoldSumsLogs.{log-next, log-flushed}
 

@@ -1,22 +1,20 @@
 -- Logs: which events add to them, and that what an actor noted past its last flush is its log.
-use Rattle.std.proofs.Common.{◌≡◌, ◌<◌, ◌≤◌, ◌+◌, ◌&&◌, ℕ, suc, Bool, true, false, cond, List, [], ◌∷◌, ◌++◌, length, take, refl, sym, ◌∙◌, ap, subst, inl, inr, arith}
-use Rattle.std.proofs.lemmas.Bool.{and_right, false≢true, le-ltb, lt-ltb}
+use Rattle.std.proofs.Common.{◌≡◌, ◌<◌, ◌≤◌, ◌+◌, ◌&&◌, ℕ, suc, Bool, true, false, cond, List, [], ◌∷◌, ◌++◌, length, refl, sym, ◌∙◌, ap, subst, inl, inr, arith}
+use Rattle.std.proofs.lemmas.Bool.{false≢true, le-ltb, lt-ltb}
 use Rattle.std.proofs.lemmas.List.{append-nil}
-use Rattle.std.specs.Prelude.{◌==◌, nat_lt, Option, Some, None, unwrap_or}
+use Rattle.std.specs.Prelude.{◌==◌, nat_lt}
 use Rattle.crgc_ids.specs.Actor.{Actor}
-use Rattle.crgc_ids.specs.Members.{IsAmong}
 use Rattle.history_model.specs.declared.events.Event.{Event}
 use Rattle.history_model.specs.declared.events.Event.TheVariants.{Seed, Tie, Take, Spawn, Send, Drop, Flush}
 use Rattle.history_model.specs.Tally.{tally}
 use Rattle.history_model.specs.Cluster.{Cluster, same_actor}
-use Rattle.history_model.specs.Facts.{Flags, Fact, received, sent_to, created, released, flagged, is_flagged, Note, notes}
-use Rattle.history_model.specs.Streams.{entry, facts_by, flags_at, log, stream}
-use Rattle.history_model.specs.Graph.{delta_facts, last_flags}
-use Rattle.history_model.proofs.Basics.{eqb-refl, same_actor-equal, same_actor-refl, same_actor-sym, tally-append, true_or_false}
-use Rattle.history_model.proofs.Sums.{flags_cut, flush_cut, publish_cut, told_sum}
+use Rattle.history_model.specs.Facts.{Fact, Note, notes}
+use Rattle.history_model.specs.Streams.{facts_by, log}
+use Rattle.history_model.proofs.Basics.{same_actor-equal, tally-append, true_or_false}
+use Rattle.history_model.proofs.Sums.{told_sum}
 use Rattle.history_model.proofs.FoldSumsNotes.{told-same}
-use Rattle.history_model.proofs.FoldSumsCuts.{flags_cut-last, flush_cut-last, flush_cut-within, is_flush_of, last_flush, last_flush-end, last_flush-here, last_flush-later, last_flush-other, some_flags}
-use Rattle.history_model.proofs.FoldSumsCuts.{last_flush-within, last_flush-skip, flush-elsewhere, is_flush_on}
+use Rattle.history_model.proofs.FoldSumsCuts.{is_flush_of, last_flush, last_flush-end, last_flush-here, last_flush-other}
+use Rattle.history_model.proofs.FoldSumsCuts.{last_flush-within}
 
 -- ---- events and logs
 
@@ -51,7 +49,7 @@ module _ (cl : Cluster) (o : ℕ) (t : Fact → Bool) where
   raised-step x fs true l r m n own other e =
       let both = own refl in
       let moved : cond (t x) (m + 1) m ≡ n + cond (t x) (tally t fs + 1) (tally t fs) =
-        elim (t x) as (λ v. cond v (m + 1) m ≡ n + cond v (tally t fs + 1) (tally t fs)) [ true ↦ omega arith | false ↦ e ] in
+      elim (t x) as (λ v. cond v (m + 1) m ≡ n + cond v (tally t fs + 1) (tally t fs)) [ true ↦ omega arith | false ↦ e ] in
       ap (λ v. cond v (m + 1) m) both.0 ∙ moved ∙ ap (λ v. cond v (n + 1) n + cond (t x) (tally t fs + 1) (tally t fs)) (sym both.1)
   raised-step x fs false l r m n own other e =
       ap (λ v. cond v (m + 1) m) (other refl)
@@ -69,12 +67,12 @@ module _ (cl : Cluster) (o : ℕ) (t : Fact → Bool) where
   raised-notes b u v k on others low high [] = omega arith
   raised-notes b u v k on others low high (x ∷ ns) =
       let own : same_actor x.by b ≡ true → ((nat_lt k (v x.by) && counts x) ≡ t x.fact) × ((nat_lt k (u x.by) && counts x) ≡ false) = λ same. (
-        let Own : Actor → Type 0 = λ a. ((nat_lt k (v a) && ((a.node == o) && t x.fact)) ≡ t x.fact) × ((nat_lt k (u a) && ((a.node == o) && t x.fact)) ≡ false) in
-        let at_b : Own b = (
-          ap (λ w. w && ((b.node == o) && t x.fact)) (lt-ltb k (v b) high) ∙ ap (λ w. w && t x.fact) on,
-          ap (λ w. w && ((b.node == o) && t x.fact)) (le-ltb k (u b) low),
-        ) in
-        subst Own (sym (same_actor-equal x.by b same)) at_b
+      let Own : Actor → Type 0 = λ a. ((nat_lt k (v a) && ((a.node == o) && t x.fact)) ≡ t x.fact) × ((nat_lt k (u a) && ((a.node == o) && t x.fact)) ≡ false) in
+      let at_b : Own b = (
+        ap (λ w. w && ((b.node == o) && t x.fact)) (lt-ltb k (v b) high) ∙ ap (λ w. w && t x.fact) on,
+        ap (λ w. w && ((b.node == o) && t x.fact)) (le-ltb k (u b) low),
+      ) in
+      subst Own (sym (same_actor-equal x.by b same)) at_b
       ) in
       raised-step x.fact (facts_by b ns) (same_actor x.by b) (nat_lt k (v x.by) && counts x) (nat_lt k (u x.by) && counts x)
       (tally (λ y. nat_lt k (v y.by) && counts y) ns) (tally (λ y. nat_lt k (u y.by) && counts y) ns)
@@ -94,24 +92,24 @@ module _ (cl : Cluster) (o : ℕ) (t : Fact → Bool) where
   told-raised b u v (e ∷ p) raised =
       elim (true_or_false (is_flush_of b e)) [
         | inl flush ↦ (
-          let blank = log-flushed cl b e p flush in
-          let low = raised.low ∙ last_flush-here 0 length b (suc (length p)) e p flush (omega arith) in
-          let high = raised.high in
-          let before : told_sum cl v counts p ≡ told_sum cl u counts p =
+            let blank = log-flushed cl b e p flush in
+            let low = raised.low ∙ last_flush-here 0 length b (suc (length p)) e p flush (omega arith) in
+            let high = raised.high in
+            let before : told_sum cl v counts p ≡ told_sum cl u counts p =
             told-same cl v u counts counts p (λ k l x. ap (λ w. w && counts x) (raised-tests b u v k raised.others (omega arith) (omega arith) x.by)) in
-          let unlogged = ap (tally t) blank.0 in
-          let untold = ap (tally (λ x. nat_lt (length p) (v x.by) && counts x)) blank.1 in
-          let untold_low = ap (tally (λ x. nat_lt (length p) (u x.by) && counts x)) blank.1 in
-          omega arith
-        )
+            let unlogged = ap (tally t) blank.0 in
+            let untold = ap (tally (λ x. nat_lt (length p) (v x.by) && counts x)) blank.1 in
+            let untold_low = ap (tally (λ x. nat_lt (length p) (u x.by) && counts x)) blank.1 in
+            omega arith
+            )
         | inr none ↦ (
-          let low : u b ≡ last_flush 0 length b (length p) p =
+            let low : u b ≡ last_flush 0 length b (length p) p =
             raised.low ∙ last_flush-other 0 length b (suc (length p)) e p none ∙ last_flush-end 0 length b (suc (length p)) p (omega arith) in
-          let high : length p < v b = (let top = raised.high in omega arith) in
-          let before = told-raised b u v p (record { on = raised.on; others = raised.others; low = low; high = omega arith }) in
-          let within : u b ≤ length p = (let w = last_flush-within b (length p) p in omega arith) in
-          let here = raised-notes b u v (length p) raised.on raised.others within high (notes cl e p) in
-          let grown = ap (tally t) (log-next cl b e p none) ∙ tally-append t (log cl b p) (facts_by b (notes cl e p)) in
-          omega arith
-        )
+            let high : length p < v b = (let top = raised.high in omega arith) in
+            let before = told-raised b u v p (record { on = raised.on; others = raised.others; low = low; high = omega arith }) in
+            let within : u b ≤ length p = (let w = last_flush-within b (length p) p in omega arith) in
+            let here = raised-notes b u v (length p) raised.on raised.others within high (notes cl e p) in
+            let grown = ap (tally t) (log-next cl b e p none) ∙ tally-append t (log cl b p) (facts_by b (notes cl e p)) in
+            omega arith
+            )
       ]

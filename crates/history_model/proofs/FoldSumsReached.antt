@@ -53,9 +53,9 @@ module _ (cl : Cluster) (lost : ℕ → Bool) (f : Fold) where
       elim (covers b found.1 more.0) [
         | inl inside ↦ absurd (false≢true (sym tests.0 ∙ (holds-among xs b).1 inside))
         | inr reached ↦ (
-          let next = chain-next reached.0 b a reached.1 reached.3 more.0 (not_false (has_edge cl lost f b a) more.1) in
-          (reached.0, next.0, reached.2, next.1)
-        )
+            let next = chain-next reached.0 b a reached.1 reached.3 more.0 (not_false (has_edge cl lost f b a) more.1) in
+            (reached.0, next.0, reached.2, next.1)
+            )
       ]
 
   -- what is taken away is reached

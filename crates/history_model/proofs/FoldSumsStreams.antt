@@ -1,21 +1,19 @@
 -- What the first bulletins of a stream tell: the notes below the cuts, and the flags there.
-use Rattle.std.proofs.Common.{◌≡◌, ◌<◌, ◌≤◌, ◌+◌, ◌&&◌, ℕ, suc, Bool, true, false, cond, List, [], ◌∷◌, ◌++◌, length, take, refl, sym, ◌∙◌, ap, subst, inl, inr, arith}
-use Rattle.std.proofs.lemmas.Bool.{and_right, false≢true, le-ltb, lt-ltb}
-use Rattle.std.proofs.lemmas.List.{append-nil}
-use Rattle.std.specs.Prelude.{◌==◌, nat_lt, Option, Some, None, unwrap_or}
+use Rattle.std.proofs.Common.{◌≡◌, ◌≤◌, ◌+◌, ◌&&◌, ℕ, suc, Bool, true, false, cond, List, ◌∷◌, length, take, refl, sym, ◌∙◌, ap, inl, inr, arith}
+use Rattle.std.proofs.lemmas.Bool.{and_right}
+use Rattle.std.specs.Prelude.{◌==◌, nat_lt, Option, None}
 use Rattle.crgc_ids.specs.Actor.{Actor}
-use Rattle.crgc_ids.specs.Members.{IsAmong}
 use Rattle.history_model.specs.declared.events.Event.{Event}
-use Rattle.history_model.specs.declared.events.Event.TheVariants.{Seed, Tie, Take, Spawn, Send, Drop, Flush}
+use Rattle.history_model.specs.declared.events.Event.TheVariants.{Flush}
 use Rattle.history_model.specs.Tally.{tally}
-use Rattle.history_model.specs.Cluster.{Cluster, same_actor}
-use Rattle.history_model.specs.Facts.{Flags, Fact, received, sent_to, created, released, flagged, is_flagged, Note, notes}
-use Rattle.history_model.specs.Streams.{entry, facts_by, flags_at, log, stream}
+use Rattle.history_model.specs.Cluster.{Cluster}
+use Rattle.history_model.specs.Facts.{Flags, Fact, flagged, Note}
+use Rattle.history_model.specs.Streams.{entry, flags_at, log, stream}
 use Rattle.history_model.specs.Graph.{delta_facts, last_flags}
-use Rattle.history_model.proofs.Basics.{eqb-refl, same_actor-equal, same_actor-refl, same_actor-sym, tally-append, true_or_false}
+use Rattle.history_model.proofs.Basics.{eqb-refl, same_actor-refl, same_actor-sym, tally-append, true_or_false}
 use Rattle.history_model.proofs.Sums.{flags_cut, flush_cut, publish_cut, told_sum}
 use Rattle.history_model.proofs.FoldSumsNotes.{told-later, told-same}
-use Rattle.history_model.proofs.FoldSumsCuts.{flags_cut-last, flush_cut-last, flush_cut-within, is_flush_of, last_flush, last_flush-end, last_flush-here, last_flush-later, last_flush-other, some_flags}
+use Rattle.history_model.proofs.FoldSumsCuts.{flags_cut-last, flush_cut-last, last_flush, last_flush-here, last_flush-later, some_flags}
 use Rattle.history_model.proofs.FoldSumsBulletins.{IsToldUntil, stream-value}
 use Rattle.history_model.proofs.FoldSumsCuts.{last_flush-within, last_flush-skip, flush-elsewhere, is_flush_on}
 use Rattle.history_model.proofs.FoldSumsLogs.{IsRaised, passes, told-raised}
@@ -37,9 +35,9 @@ module _ (cl : Cluster) (o : ℕ) (t : Fact → Bool) where
       elim (true_or_false (x.by.node == o)) [
         | inl on ↦ ap (λ w. nat_lt k w && counts x) (same on)
         | inr off ↦ (
-          let none = ap (λ w. w && t x.fact) off in
-          and_right (nat_lt k c) (counts x) none ∙ sym (and_right (nat_lt k d) (counts x) none)
-        )
+            let none = ap (λ w. w && t x.fact) off in
+            and_right (nat_lt k c) (counts x) none ∙ sym (and_right (nat_lt k d) (counts x) none)
+            )
       ]
 
   told_until-later : (k : ℕ) (e : Event) (p : List Event) → k ≤ length p → told_until k (e ∷ p) ≡ told_until k p
@@ -52,7 +50,7 @@ module _ (cl : Cluster) (o : ℕ) (t : Fact → Bool) where
   told_until-other e p f =
       let u : List Event → Actor → ℕ = λ h a. last_flush 0 length a (length h) h in
       told-same cl (u (e ∷ p)) (u p) counts counts (e ∷ p)
-        (λ j _ x. same-passing j x (u (e ∷ p) x.by) (u p x.by) (λ on. last_flush-skip 0 length x.by e p (flush-elsewhere x.by o e on f)))
+      (λ j _ x. same-passing j x (u (e ∷ p) x.by) (u p x.by) (λ on. last_flush-skip 0 length x.by e p (flush-elsewhere x.by o e on f)))
       ∙ told-later cl (u p) counts e p (λ a. last_flush-within a (length p) p)
 
   told_until-flush : ((a : Actor) (g : Flags) → t (flagged a g) ≡ false) → (b : Actor) (p : List Event) → (b.node == o) ≡ true → told_until (suc (length p)) (Flush b ∷ p) ≡ told_until (length p) p + tally t (entry cl b p)
@@ -84,7 +82,7 @@ deltas-told cl h o n t plain =
     let cut : ℕ = publish_cut cl o n h in
     stream-value cl o (λ x y. x + y) (tally t) (told_until cl o t) laws n h
     ∙ told-same cl (λ a. last_flush 0 length a cut h) (λ a. flush_cut a cut h) (passes o t) (passes o t) h
-        (λ k _ x. ap (λ c. nat_lt k c && passes o t x) (sym (flush_cut-last x.by cut h)))
+    (λ k _ x. ap (λ c. nat_lt k c && passes o t x) (sym (flush_cut-last x.by cut h)))
 
 -- ---- flags
 
