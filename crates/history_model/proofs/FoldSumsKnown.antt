@@ -1,7 +1,6 @@
 -- The known actors of a fold, and what holds of every positive edge.
-use Rattle.std.proofs.Common.{◌≡◌, ◌<◌, ◌+◌, ◌&&◌, ◌||◌, ◌↔◌, ◌⊎◌, ℕ, Bool, true, false, cond, List, [], ◌∷◌, ◌++◌, refl, sym, ◌∙◌, ap, subst, inl, inr, arith}
-use Rattle.std.proofs.lemmas.Bool.{false≢true}
-use Rattle.std.proofs.lemmas.Bool.Decides.{Decides-ltb}
+use Rattle.std.proofs.Common.{◌≡◌, ◌<◌, ◌+◌, ◌||◌, ◌↔◌, ◌⊎◌, ℕ, Bool, true, false, cond, List, [], ◌∷◌, ◌++◌, refl, sym, ◌∙◌, subst, inl, inr, arith}
+use Rattle.std.proofs.lemmas.Bool.{false≢true, ltb-true, or_left, or_right}
 use Rattle.std.specs.List.{flat_map}
 use Rattle.crgc_ids.specs.Actor.{Actor, is_actor_below}
 use Rattle.crgc_ids.specs.Nodes.{nodes_below}
@@ -12,7 +11,7 @@ use Rattle.history_model.specs.Cluster.{Cluster, same_actor}
 use Rattle.history_model.specs.Facts.{Fact, received, sent_to, created, released, flagged, is_created, names}
 use Rattle.history_model.specs.Streams.{Notice, delta, window_of, final_of}
 use Rattle.history_model.specs.Folds.{Fold}
-use Rattle.history_model.specs.Graph.{admitted_facts, carried_count, created_count, delta_facts, has_edge, holds_actor, insert_actor, known_actors, link_facts, named_by, notice_facts, released_count, rising_actors, told_facts}
+use Rattle.history_model.specs.Graph.{carried_count, created_count, delta_facts, has_edge, holds_actor, insert_actor, known_actors, link_facts, named_by, notice_facts, released_count, rising_actors}
 use Rattle.history_model.proofs.Basics.{and_true, or_true, same_actor-equal, same_actor-refl}
 
 -- ---- members of lists
@@ -31,7 +30,7 @@ pub tally-some : {X : Type 0} (test : X → Bool) (xs : List X) → 0 < tally te
 tally-some test [] l = absurd (omega arith)
 tally-some {X} test (y ∷ ys) l =
     let later : 0 < tally test ys → (x : X) × IsAmong x (y ∷ ys) × (test x ≡ true) =
-      λ m. (let found = tally-some test ys m in (found.0, inr found.1, found.2)) in
+    λ m. (let found = tally-some test ys m in (found.0, inr found.1, found.2)) in
     let Found : Bool → Type 0 = λ v. test y ≡ v → 0 < cond v (tally test ys + 1) (tally test ys) → (x : X) × IsAmong x (y ∷ ys) × (test x ≡ true) in
     let found : Found (test y) = elim (test y) as Found [ true ↦ λ t _. (y, inl refl, t) | false ↦ λ _ m. later m ] in
     found refl l
@@ -57,9 +56,9 @@ insert-among a b [] h = h
 insert-among a b (c ∷ cs) h =
     let Kept : Type 0 = (a ≡ b) ⊎ IsAmong a (c ∷ cs) in
     let later : IsAmong a (c ∷ insert_actor b cs) → Kept =
-      λ k. elim k [ inl e ↦ inr (inl e) | inr m ↦ elim (insert-among a b cs m) [ inl e ↦ inl e | inr n ↦ inr (inr n) ] ] in
+    λ k. elim k [ inl e ↦ inr (inl e) | inr m ↦ elim (insert-among a b cs m) [ inl e ↦ inl e | inr n ↦ inr (inr n) ] ] in
     let below : IsAmong a (cond (is_actor_below b c) (b ∷ c ∷ cs) (c ∷ insert_actor b cs)) → Kept =
-      elim (is_actor_below b c) as (λ v. IsAmong a (cond v (b ∷ c ∷ cs) (c ∷ insert_actor b cs)) → Kept) [ true ↦ λ k. k | false ↦ later ] in
+    elim (is_actor_below b c) as (λ v. IsAmong a (cond v (b ∷ c ∷ cs) (c ∷ insert_actor b cs)) → Kept) [ true ↦ λ k. k | false ↦ later ] in
     (elim (same_actor b c) as (λ v. IsAmong a (cond v (c ∷ cs) (cond (is_actor_below b c) (b ∷ c ∷ cs) (c ∷ insert_actor b cs))) → Kept) [
       | true ↦ λ k. inr k
       | false ↦ below
@@ -69,9 +68,9 @@ insert-keeps : (a b : Actor) (xs : List Actor) → (a ≡ b) ⊎ IsAmong a xs �
 insert-keeps a b [] h = h
 insert-keeps a b (c ∷ cs) h =
     let later : IsAmong a (c ∷ insert_actor b cs) =
-      elim h [ inl e ↦ inr (insert-keeps a b cs (inl e)) | inr k ↦ elim k [ inl e ↦ inl e | inr m ↦ inr (insert-keeps a b cs (inr m)) ] ] in
+    elim h [ inl e ↦ inr (insert-keeps a b cs (inl e)) | inr k ↦ elim k [ inl e ↦ inl e | inr m ↦ inr (insert-keeps a b cs (inr m)) ] ] in
     let below : IsAmong a (cond (is_actor_below b c) (b ∷ c ∷ cs) (c ∷ insert_actor b cs)) =
-      elim (is_actor_below b c) as (λ v. IsAmong a (cond v (b ∷ c ∷ cs) (c ∷ insert_actor b cs))) [ true ↦ h | false ↦ later ] in
+    elim (is_actor_below b c) as (λ v. IsAmong a (cond v (b ∷ c ∷ cs) (c ∷ insert_actor b cs))) [ true ↦ h | false ↦ later ] in
     let Kept : Bool → Type 0 = λ v. same_actor b c ≡ v → IsAmong a (cond v (c ∷ cs) (cond (is_actor_below b c) (b ∷ c ∷ cs) (c ∷ insert_actor b cs))) in
     let kept : Kept (same_actor b c) = elim (same_actor b c) as Kept [
       | true ↦ λ t. elim h [ inl e ↦ inl (e ∙ same_actor-equal b c t) | inr k ↦ k ]
@@ -88,21 +87,18 @@ rising-among a (b ∷ bs) = (
 
 -- ---- named and known actors
 
+-- the tests for one name and for two
 one-named : (a b : Actor) → (same_actor b a ≡ true) ↔ IsAmong a (b ∷ [])
 one-named a b = (
   λ t. inl (sym (same_actor-equal b a t)),
   λ h. elim h [ inl e ↦ subst (λ c. same_actor c a ≡ true) e (same_actor-refl a) | inr k ↦ absurd k ],
 )
 
-or_right : (a b : Bool) → b ≡ true → (a || b) ≡ true
-or_right true b t = refl
-or_right false b t = t
-
 two-named : (a b c : Actor) → ((same_actor b a || same_actor c a) ≡ true) ↔ IsAmong a (b ∷ c ∷ [])
 two-named a b c = (
   λ t. elim (or_true (same_actor b a) (same_actor c a) t) [ inl l ↦ inl (sym (same_actor-equal b a l)) | inr r ↦ inr (inl (sym (same_actor-equal c a r))) ],
   λ h. elim h [
-    | inl e ↦ ap (λ v. v || same_actor c a) ((one-named a b).1 (inl e))
+    | inl e ↦ or_left (same_actor b a) (same_actor c a) ((one-named a b).1 (inl e))
     | inr k ↦ or_right (same_actor b a) (same_actor c a) ((one-named a c).1 k)
   ],
 )
@@ -155,43 +151,35 @@ link-notice lost x (delta facts ∷ ns) h = IsAmong-append_right x facts (notice
 link-notice lost x (window_of s facts ∷ ns) h = link-piece x (lost s) facts (link_facts lost ns) (notice_facts ns) (link-notice lost x ns) h
 link-notice lost x (final_of s facts ∷ ns) h = link-piece x (lost s) facts (link_facts lost ns) (notice_facts ns) (link-notice lost x ns) h
 
--- a fact of pieces that are parts of the nodes' bulletins makes known whom it names
-piece-known : (cl : Cluster) (f : Fold) (pieces : ℕ → List Fact) → ((o : ℕ) (x : Fact) → IsAmong x (pieces o) → IsAmong x (notice_facts (f o))) → (x : Fact) → IsAmong x (flat_map pieces (nodes_below cl.nodes)) → (a : Actor) → names a x ≡ true → IsAmong a (known_actors cl f)
-piece-known cl f pieces part x h a t =
-    let found = IsAmong-from_flat_map pieces x (nodes_below cl.nodes) h in
-    let below = IsAmong-from_range found.0 0 cl.nodes found.1 in
-    (known-named cl f a).1 (found.0, omega arith, x, part found.0 x found.2, t)
-
+-- so is what the deltas of a node that is not lost tell
 out-notice : (b : Bool) (x : Fact) (ns : List Notice) → IsAmong x (cond b [] (delta_facts ns)) → IsAmong x (notice_facts ns)
 out-notice true x ns h = absurd h
 out-notice false x ns h = delta-notice x ns h
 
--- a pair names both its actors
+-- what tells that a reference was made names its owner and its target
 pub created-names : (b a : Actor) (x : Fact) → is_created b a x ≡ true → (names b x ≡ true) × (names a x ≡ true)
 created-names b a (created c d) t =
     let both = and_true (same_actor c b) (same_actor d a) t in
     ((two-named b c d).1 (inl (sym (same_actor-equal c b both.0))), (two-named a c d).1 (inr (inl (sym (same_actor-equal d a both.1)))))
 created-names b a _ t = absurd (false≢true t)
 
+-- where pieces of the nodes' bulletins tell of a reference, its owner and its target are known
+pair-known : (cl : Cluster) (f : Fold) (b a : Actor) (pieces : ℕ → List Fact) → ((o : ℕ) (x : Fact) → IsAmong x (pieces o) → IsAmong x (notice_facts (f o))) → 0 < tally (is_created b a) (flat_map pieces (nodes_below cl.nodes)) → IsAmong b (known_actors cl f) × IsAmong a (known_actors cl f)
+pair-known cl f b a pieces part l =
+    let fact = tally-some (is_created b a) (flat_map pieces (nodes_below cl.nodes)) l in
+    let piece = IsAmong-from_flat_map pieces fact.0 (nodes_below cl.nodes) fact.1 in
+    let below = IsAmong-from_range piece.0 0 cl.nodes piece.1 in
+    let named = created-names b a fact.0 fact.2 in
+    let known : (c : Actor) → names c fact.0 ≡ true → IsAmong c (known_actors cl f) =
+      λ c t. (known-named cl f c).1 (piece.0, omega arith, fact.0, part piece.0 fact.0 piece.2, t) in
+    (known b named.0, known a named.1)
+
 -- both ends of a positive edge are known
 pub edge-known : (cl : Cluster) (lost : ℕ → Bool) (f : Fold) (b a : Actor) → has_edge cl lost f b a ≡ true → IsAmong b (known_actors cl f) × IsAmong a (known_actors cl f)
 edge-known cl lost f b a edge =
-    let Both : Type 0 = IsAmong b (known_actors cl f) × IsAmong a (known_actors cl f) in
-    let less : released_count cl f b a < created_count cl lost f b a + carried_count cl lost f b a =
-      (Decides-ltb (released_count cl f b a) (created_count cl lost f b a + carried_count cl lost f b a)).0 edge in
-    let told : ℕ → List Fact = λ o. cond (lost o) [] (delta_facts (f o)) in
-    let admitted : ℕ → List Fact = λ o. link_facts lost (f o) in
-    let from_told : 0 < created_count cl lost f b a → Both = λ l. (
-      let found = tally-some (is_created b a) (told_facts cl lost f) l in
-      let known = piece-known cl f told (λ o x. out-notice (lost o) x (f o)) found.0 found.1 in
-      let named = created-names b a found.0 found.2 in
-      (known b named.0, known a named.1)
-    ) in
-    let from_admitted : 0 < carried_count cl lost f b a → Both = λ l. (
-      let found = tally-some (is_created b a) (admitted_facts cl lost f) l in
-      let known = piece-known cl f admitted (λ o x. link-notice lost x (f o)) found.0 found.1 in
-      let named = created-names b a found.0 found.2 in
-      (known b named.0, known a named.1)
-    ) in
+    let less = ltb-true (released_count cl f b a) (created_count cl lost f b a + carried_count cl lost f b a) edge in
     let some : (0 < created_count cl lost f b a) ⊎ (0 < carried_count cl lost f b a) = grind arith in
-    elim some [ inl l ↦ from_told l | inr l ↦ from_admitted l ]
+    elim some [
+      | inl told ↦ pair-known cl f b a (λ o. cond (lost o) [] (delta_facts (f o))) (λ o x. out-notice (lost o) x (f o)) told
+      | inr admitted ↦ pair-known cl f b a (λ o. link_facts lost (f o)) (λ o x. link-notice lost x (f o)) admitted
+    ]
