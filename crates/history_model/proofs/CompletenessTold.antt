@@ -6,7 +6,7 @@ use Rattle.std.specs.Bool.{beq}
 use Rattle.crgc_ids.specs.Actor.{Actor}
 use Rattle.crgc_ids.specs.Members.{IsAmong}
 use Rattle.history_model.specs.declared.events.Event.{Event}
-use Rattle.history_model.specs.declared.events.Event.TheVariants.{Seed, Tie, Take, Spawn, Send, Drop, Flush, Publish, Window, Remove}
+use Rattle.history_model.specs.declared.events.Event.TheVariants.{Flush, Publish, Window, Remove}
 use Rattle.history_model.specs.Cluster.{Cluster, same_actor, is_born}
 use Rattle.history_model.specs.Facts.{Fact, flagged, Flags, Note, notes}
 use Rattle.history_model.specs.State.{is_busy, is_root, is_up}
@@ -14,9 +14,11 @@ use Rattle.history_model.specs.Streams.{Notice, delta, window_of, final_of, fact
 use Rattle.history_model.specs.Folds.{cut_at}
 use Rattle.history_model.specs.Legal.{IsLegal}
 use Rattle.history_model.specs.Quiescent.{IsQuietPoint}
-use Rattle.history_model.proofs.Basics.{and_true, legal-before, same_actor-refl}
+use Rattle.history_model.proofs.Basics.{and_true, legal-before, same_actor-refl, true_or_false}
 use Rattle.history_model.proofs.Sums.{noted_sum, told_sum, publish_cut, flush_cut, flags_cut, told_cut}
 use Rattle.history_model.proofs.AccountsBirths.{born-grows, born-on_node, notes-born}
+use Rattle.history_model.proofs.FoldSumsCuts.{flush_cut-last, is_flush_of, last_flush, last_flush-here, last_flush-other}
+use Rattle.history_model.proofs.FoldSumsLogs.{log-flushed, log-next}
 use Rattle.history_model.proofs.FoldSumsNotes.{told-next}
 use Rattle.history_model.proofs.FoldSumsDead.{not_false}
 
@@ -25,13 +27,11 @@ use Rattle.history_model.proofs.FoldSumsDead.{not_false}
 -- each flush of a lies below position t
 abbrev pub AreFlushesBelow : Actor → ℕ → List Event → Type 0
 AreFlushesBelow a t [] = Unit {0}
-AreFlushesBelow a t (Flush b ∷ p) = (same_actor b a ≡ true → length p < t) × AreFlushesBelow a t p
-AreFlushesBelow a t (_ ∷ p) = AreFlushesBelow a t p
+AreFlushesBelow a t (e ∷ p) = (is_flush_of a e ≡ true → length p < t) × AreFlushesBelow a t p
 
 flushes-within : (a : Actor) (t : ℕ) (h : List Event) → length h ≤ t → AreFlushesBelow a t h
 flushes-within a t [] below = tt
-flushes-within a t (Flush b ∷ p) below = (λ _. omega arith, flushes-within a t p (omega arith))
-flushes-within a t (_ ∷ p) below = flushes-within a t p (omega arith)
+flushes-within a t (e ∷ p) below = (λ _. omega arith, flushes-within a t p (omega arith))
 
 append-empty : {A : Type 0} (xs ys : List A) → xs ++ ys ≡ [] → xs ≡ []
 append-empty [] ys e = refl
@@ -45,6 +45,9 @@ append-not_empty (x ∷ xs) y ys e = cc
 shorter : {A : Type 0} (v : Bool) (xs : List A) (x : A) (n : ℕ) → length (cond v (xs ++ x ∷ []) xs) ≤ n → length xs ≤ n
 shorter true xs x n below = omega (arith, length-append xs (x ∷ []))
 shorter false xs x n below = below
+
+other_event : {P : Type 0} → false ≡ true → P
+other_event t = absurd (false≢true t)
 
 -- where the queue of a's node is empty, its flushes lie below the last publish
 flushes-published : (cl : Cluster) (a : Actor) (n : ℕ) (h : List Event) → length (stream cl a.node h) ≤ n → queue cl a.node h ≡ [] → AreFlushesBelow a (publish_cut cl a.node n h) h
@@ -65,12 +68,12 @@ flushes-published cl a n (Publish m ∷ p) all empty =
     let at_publish : At true = λ longer _.
         let within : nat_lt (length s) n ≡ true = (Decides-ltb (length s) n).1 (omega (arith, longer, length-append s (delta (queue cl a.node p) ∷ []))) in
         subst (λ v. AreFlushesBelow a (cond v (length p) (publish_cut cl a.node n p)) p) (sym within) (flushes-within a (length p) p (omega arith)) in
-    (elim (m == a.node) as At [ true ↦ at_publish | false ↦ flushes-published cl a n p ]) all empty
+    (other_event, (elim (m == a.node) as At [ true ↦ at_publish | false ↦ flushes-published cl a n p ]) all empty)
 flushes-published cl a n (Window d s ∷ p) all empty =
-    flushes-published cl a n p (shorter (d == a.node) (stream cl a.node p) (window_of s (window s d p)) n all) empty
+    (other_event, flushes-published cl a n p (shorter (d == a.node) (stream cl a.node p) (window_of s (window s d p)) n all) empty)
 flushes-published cl a n (Remove d s ∷ p) all empty =
-    flushes-published cl a n p (shorter (d == a.node) (stream cl a.node p) (final_of s (window s d p)) n all) empty
-flushes-published cl a n (_ ∷ p) all empty = flushes-published cl a n p all empty
+    (other_event, flushes-published cl a n p (shorter (d == a.node) (stream cl a.node p) (final_of s (window s d p)) n all) empty)
+flushes-published cl a n (_ ∷ p) all empty = (other_event, flushes-published cl a n p all empty)
 
 -- the flags at the last flush below the position are those at the last flush
 flags-flushed : (a : Actor) (t : ℕ) (h : List Event) → AreFlushesBelow a t h → flags_cut a t h ≡ flushed_flags a h
@@ -82,7 +85,7 @@ flags-flushed a t (Flush b ∷ p) below =
       | true ↦ λ s. ap (λ v. cond v (Some (flags_at a p)) (flags_cut a t p)) ((Decides-ltb (length p) t).1 (below.0 s))
       | false ↦ λ _. later
     ]) refl
-flags-flushed a t (_ ∷ p) below = flags-flushed a t p below
+flags-flushed a t (_ ∷ p) below = flags-flushed a t p below.1
 
 -- ---- notes below the last flush
 
@@ -98,38 +101,25 @@ facts_by-some a x before (n ∷ ns) (inr later) by empty =
 
 -- what an event notes in a's log does not leave the log blank
 noted-log : (cl : Cluster) (a : Actor) (e : Event) (p : List Event) (x : Note) → IsAmong x (notes cl e p) → x.by ≡ a → log cl a (e ∷ p) ≡ [] → ⊥
-noted-log cl a (Seed n) p x among by blank = facts_by-some a x (log cl a p) (notes cl (Seed n) p) among by blank
-noted-log cl a (Tie o t) p x among by blank = facts_by-some a x (log cl a p) (notes cl (Tie o t) p) among by blank
-noted-log cl a (Take b) p x among by blank = facts_by-some a x (log cl a p) (notes cl (Take b) p) among by blank
-noted-log cl a (Spawn b) p x among by blank = facts_by-some a x (log cl a p) (notes cl (Spawn b) p) among by blank
-noted-log cl a (Send f t refs) p x among by blank = facts_by-some a x (log cl a p) (notes cl (Send f t refs) p) among by blank
-noted-log cl a (Drop b t) p x among by blank = facts_by-some a x (log cl a p) (notes cl (Drop b t) p) among by blank
-noted-log cl a _ p x among by blank = absurd among
+noted-log cl a e p x among by blank =
+    elim (true_or_false (is_flush_of a e)) [
+      | inl flush ↦ subst (IsAmong x) (log-flushed cl a e p flush).1 among
+      | inr other ↦ facts_by-some a x (log cl a p) (notes cl e p) among by (sym (log-next cl a e p other) ∙ blank)
+    ]
 
 -- where a's log is blank, what it noted lies below its last flush
-noted-flushed : (cl : Cluster) (a : Actor) (t : ℕ) (q : List Event) (e : Event) (p : List Event) (x : Note) → AreFlushesBelow a t (q ++ e ∷ p) → log cl a (q ++ e ∷ p) ≡ [] → IsAmong x (notes cl e p) → x.by ≡ a → length p < flush_cut a t (q ++ e ∷ p)
+noted-flushed : (cl : Cluster) (a : Actor) (t : ℕ) (q : List Event) (e : Event) (p : List Event) (x : Note) → AreFlushesBelow a t (q ++ e ∷ p) → log cl a (q ++ e ∷ p) ≡ []
+    → IsAmong x (notes cl e p) → x.by ≡ a → length p < last_flush 0 length a t (q ++ e ∷ p)
 noted-flushed cl a t [] e p x below blank among by = absurd (noted-log cl a e p x among by blank)
-noted-flushed cl a t (Flush b ∷ q) e p x below blank among by =
+noted-flushed cl a t (f ∷ q) e p x below blank among by =
     let r = q ++ e ∷ p in
     let longer : length p < length r = omega (arith, length-append q (e ∷ p)) in
-    let Below : Bool → Type 0 = λ v. same_actor b a ≡ v → cond v [] (log cl a r) ≡ [] → length p < cond (v && nat_lt (length r) t) (length r) (flush_cut a t r) in
-    (elim (same_actor b a) as Below [
-      | true ↦ λ s _. subst (λ v. length p < cond v (length r) (flush_cut a t r)) (sym ((Decides-ltb (length r) t).1 (below.0 s))) longer
-      | false ↦ λ _ empty. noted-flushed cl a t q e p x below.1 empty among by
-    ]) refl blank
-noted-flushed cl a t (Seed n ∷ q) e p x below blank among by =
-    noted-flushed cl a t q e p x below (append-empty (log cl a (q ++ e ∷ p)) (facts_by a (notes cl (Seed n) (q ++ e ∷ p))) blank) among by
-noted-flushed cl a t (Tie o u ∷ q) e p x below blank among by =
-    noted-flushed cl a t q e p x below (append-empty (log cl a (q ++ e ∷ p)) (facts_by a (notes cl (Tie o u) (q ++ e ∷ p))) blank) among by
-noted-flushed cl a t (Take b ∷ q) e p x below blank among by =
-    noted-flushed cl a t q e p x below (append-empty (log cl a (q ++ e ∷ p)) (facts_by a (notes cl (Take b) (q ++ e ∷ p))) blank) among by
-noted-flushed cl a t (Spawn b ∷ q) e p x below blank among by =
-    noted-flushed cl a t q e p x below (append-empty (log cl a (q ++ e ∷ p)) (facts_by a (notes cl (Spawn b) (q ++ e ∷ p))) blank) among by
-noted-flushed cl a t (Send f u refs ∷ q) e p x below blank among by =
-    noted-flushed cl a t q e p x below (append-empty (log cl a (q ++ e ∷ p)) (facts_by a (notes cl (Send f u refs) (q ++ e ∷ p))) blank) among by
-noted-flushed cl a t (Drop b u ∷ q) e p x below blank among by =
-    noted-flushed cl a t q e p x below (append-empty (log cl a (q ++ e ∷ p)) (facts_by a (notes cl (Drop b u) (q ++ e ∷ p))) blank) among by
-noted-flushed cl a t (_ ∷ q) e p x below blank among by = noted-flushed cl a t q e p x below blank among by
+    elim (true_or_false (is_flush_of a f)) [
+      | inl flush ↦ subst (λ n. length p < n) (sym (last_flush-here 0 length a t f r flush (below.0 flush))) longer
+      | inr other ↦ (
+        let before = append-empty (log cl a r) (facts_by a (notes cl f r)) (sym (log-next cl a f r other) ∙ blank) in
+        subst (λ n. length p < n) (sym (last_flush-other 0 length a t f r other)) (noted-flushed cl a t q e p x below.1 before among by))
+    ]
 
 -- ---- sums
 
@@ -181,8 +171,8 @@ quiet-told cl m h legal quiet t up =
         let born = subst (λ r. IsTrue (is_born x.by r)) (sym parts) (born-grows x.by q (e ∷ p) (notes-born cl e p then_legal x among).0) in
         let told = quiet-actor cl m h legal quiet x.by born (up e p x among pass born) in
         let cut = publish_cut cl x.by.node (cut_at cl m h x.by.node) h in
-        subst (λ r. length p < flush_cut x.by cut r) (sym parts)
-        (noted-flushed cl x.by cut q e p x (subst (AreFlushesBelow x.by cut) parts told.flushes) (subst (λ r. log cl x.by r ≡ []) parts told.blank) among refl) in
+        subst (λ n. length p < n) (sym (flush_cut-last x.by cut h)) (subst (λ r. length p < last_flush 0 length x.by cut r) (sym parts)
+        (noted-flushed cl x.by cut q e p x (subst (AreFlushesBelow x.by cut) parts told.flushes) (subst (λ r. log cl x.by r ≡ []) parts told.blank) among refl)) in
     told-within cl (told_cut cl (cut_at cl m h) h) t h below [] h refl
 
 -- and the flags of such an actor are as at its last flush
