@@ -1,24 +1,23 @@
 -- At a quiet point of m, every quiescent actor of m is dead in what is folded at m: the members of a quiet set on nodes
 -- that are up are no pseudoroots, and who has a positive edge to one holds it.
-use Rattle.std.proofs.Common.{◌≡◌, ◌<◌, ◌≤◌, ◌+◌, ◌&&◌, ◌||◌, ◌⊎◌, ◌==◌, ℕ, Bool, true, false, not, List, [], ◌∷◌, ◌++◌, refl, sym, ◌∙◌, ap, subst, inl, inr, arith, IsTrue, IsFalse, cond, filter, sum_by, nat_lt, Option, Some, None, unwrap_or}
-use Rattle.std.proofs.lemmas.Bool.{and_parts, cases_lt, cond_both, false≢true, or_from, or_left}
+use Rattle.std.proofs.Common.{◌≡◌, ◌<◌, ◌+◌, ◌&&◌, ℕ, Bool, true, false, not, List, [], ◌∷◌, refl, sym, ◌∙◌, ap, subst, inl, inr, arith, IsTrue, filter, sum_by, Some, unwrap_or}
+use Rattle.std.proofs.lemmas.Bool.{cases_lt, cond_both, or_from}
 use Rattle.std.proofs.lemmas.Bool.Decides.{Decides-eqb, Decides-ltb}
 use Rattle.crgc_ids.specs.Actor.{Actor}
 use Rattle.crgc_ids.specs.Members.{IsAmong}
 use Rattle.crgc_ids.proofs.MembersLaws.{IsAmong-filter, IsAmong-from_filter}
 use Rattle.history_model.specs.declared.events.Event.{Event}
-use Rattle.history_model.specs.Tally.{tally}
-use Rattle.history_model.specs.Cluster.{Cluster, same_actor, is_born}
+use Rattle.history_model.specs.Cluster.{Cluster, same_actor}
 use Rattle.history_model.specs.Messages.{Message, is_to, mail, takes}
-use Rattle.history_model.specs.Facts.{Fact, received, sent_to, created, released, flagged, Flags, Note, is_received, is_sent_to, is_created, is_released, names}
+use Rattle.history_model.specs.Facts.{Fact, flagged, Flags, Note, is_sent_to, is_created, names}
 use Rattle.history_model.specs.Held.{gifts, gave}
 use Rattle.history_model.specs.State.{is_up}
 use Rattle.history_model.specs.Folds.{cut_at, folded, is_lost}
-use Rattle.history_model.specs.Graph.{delta_facts, received_count, told_count, created_count, carried_count, admitted_count, released_count, is_balanced, has_edge, known_actors, last_flags, own_flags, may_act, dead}
+use Rattle.history_model.specs.Graph.{delta_facts, received_count, told_count, created_count, carried_count, admitted_count, released_count, is_balanced, has_edge, last_flags, own_flags, may_act}
 use Rattle.history_model.specs.Sweeps.{dead_at}
 use Rattle.history_model.specs.Legal.{IsLegal}
 use Rattle.history_model.specs.Quiescent.{IsQuietPoint, IsQuietSet, IsQuiescent}
-use Rattle.history_model.proofs.Basics.{and_true, not_true, same_actor-equal}
+use Rattle.history_model.proofs.Basics.{and_true, not_true}
 use Rattle.history_model.proofs.Sums.{all_sent, noted_sum, told_cut, told_sum}
 use Rattle.history_model.proofs.AccountsBirths.{born-on_node, noted-born, sent-born}
 use Rattle.history_model.proofs.AccountsNotes.{received-noted, released-noted}
@@ -45,8 +44,8 @@ last_flags-named : (a : Actor) (xs : List Fact) (g : Flags) → last_flags a xs 
 last_flags-named a [] g e = absurd (cc)
 last_flags-named a (flagged b flags ∷ xs) g e =
     let later : last_flags a xs ≡ Some g → (x : Fact) × IsAmong x (flagged b flags ∷ xs) × (names a x ≡ true) = λ k.
-        let found = last_flags-named a xs g k in
-        (found.0, inr found.1, found.2) in
+    let found = last_flags-named a xs g k in
+    (found.0, inr found.1, found.2) in
     cond_both (same_actor b a) (Some (unwrap_or (last_flags a xs) flags)) (last_flags a xs) (λ o. o ≡ Some g → (x : Fact) × IsAmong x (flagged b flags ∷ xs) × (names a x ≡ true))
     (λ s _. (flagged b flags, inl refl, s)) (λ _. later) e
 last_flags-named a (_ ∷ xs) g e =
@@ -67,7 +66,8 @@ module _ (cl : Cluster) (m : ℕ) (h : List Event) (legal : IsLegal cl h) (here 
   sender-up x among = not_lost-up x.from.node (born-on_node cl h legal x.from (sent-born cl h legal x among).0)
 
   -- what actors on nodes that are not lost noted is told
-  outside-told : (t : Note → Bool) → told_sum cl (told_cut cl (cut_at cl m h) h) (λ x. not (lost_at cl m h x.by.node) && t x) h ≡ noted_sum cl (λ x. not (lost_at cl m h x.by.node) && t x) h
+  outside-told : (t : Note → Bool)
+      → told_sum cl (told_cut cl (cut_at cl m h) h) (λ x. not (lost_at cl m h x.by.node) && t x) h ≡ noted_sum cl (λ x. not (lost_at cl m h x.by.node) && t x) h
   outside-told t =
       quiet-told cl m h legal quiet (λ x. not (lost_at cl m h x.by.node) && t x)
       (λ e p x among pass born. not_lost-up x.by.node (born-on_node cl h legal x.by born) (not_true (lost_at cl m h x.by.node) (and_true (not (lost_at cl m h x.by.node)) (t x) pass).0))
@@ -90,7 +90,8 @@ module _ (cl : Cluster) (m : ℕ) (h : List Event) (legal : IsLegal cl h) (here 
       ∙ outside-told (λ x. is_sent_to a x.fact)
       ∙ sendings-sent cl h (lost_at cl m h) a
 
-  created-all : (b a : Actor) → lost_at cl m h a.node ≡ false → created_count cl (lost_at cl m h) (folded cl m h) b a ≡ gifts cl b a h + sum_by (carries_other (lost_at cl m h) a) (filter (is_to b) (all_sent h))
+  created-all : (b a : Actor) → lost_at cl m h a.node ≡ false
+      → created_count cl (lost_at cl m h) (folded cl m h) b a ≡ gifts cl b a h + sum_by (carries_other (lost_at cl m h) a) (filter (is_to b) (all_sent h))
   created-all b a out =
       created-told cl h (cut_at cl m h) (lost_at cl m h) b a legal
       ∙ outside-told (λ x. is_created b a x.fact)
@@ -117,7 +118,8 @@ module _ (cl : Cluster) (m : ℕ) (h : List Event) (legal : IsLegal cl h) (here 
       ]
 
   -- a member on a node that is up took all that was told or admitted for it
-  member-balanced : (q : List Actor) → IsQuietSet cl h q → (a : Actor) → IsAmong a q → IsTrue (is_up a.node h) → received_count cl (folded cl m h) a ≡ told_count cl (lost_at cl m h) (folded cl m h) a + admitted_count cl (lost_at cl m h) (folded cl m h) a
+  member-balanced : (q : List Actor) → IsQuietSet cl h q → (a : Actor) → IsAmong a q → IsTrue (is_up a.node h)
+      → received_count cl (folded cl m h) a ≡ told_count cl (lost_at cl m h) (folded cl m h) a + admitted_count cl (lost_at cl m h) (folded cl m h) a
   member-balanced q set a member up =
       let below = born-on_node cl h legal a (set.born a member) in
       let lost = lost_at cl m h in
@@ -129,7 +131,8 @@ module _ (cl : Cluster) (m : ℕ) (h : List Event) (legal : IsLegal cl h) (here 
       omega (arith, received, sent, admitted, lost_mail, took)
 
   -- who has a positive edge to such a member is one too, unless its node is lost
-  member-owner : (q : List Actor) → IsQuietSet cl h q → (b a : Actor) → IsAmong a q → IsTrue (is_up a.node h) → has_edge cl (lost_at cl m h) (folded cl m h) b a ≡ true → lost_at cl m h b.node ≡ false → IsAmong b q × IsTrue (is_up b.node h)
+  member-owner : (q : List Actor) → IsQuietSet cl h q → (b a : Actor) → IsAmong a q → IsTrue (is_up a.node h)
+      → has_edge cl (lost_at cl m h) (folded cl m h) b a ≡ true → lost_at cl m h b.node ≡ false → IsAmong b q × IsTrue (is_up b.node h)
   member-owner q set b a member up edge out =
       let below = edge-inside b a edge in
       let lost = lost_at cl m h in
@@ -143,7 +146,8 @@ module _ (cl : Cluster) (m : ℕ) (h : List Event) (legal : IsLegal cl h) (here 
       (set.holders b a member b_up (omega (arith, more, released, created, carried_b, took)), b_up)
 
   -- a member on a node that is up is known, and no pseudoroot
-  member-candidate : (q : List Actor) → IsQuietSet cl h q → (a : Actor) → IsAmong a q → IsTrue (is_up a.node h) → IsCandidate cl (lost_at cl m h) (folded cl m h) a
+  member-candidate : (q : List Actor) → IsQuietSet cl h q → (a : Actor) → IsAmong a q → IsTrue (is_up a.node h)
+      → IsCandidate cl (lost_at cl m h) (folded cl m h) a
   member-candidate q set a member up =
       let f = folded cl m h in
       let lost = lost_at cl m h in
@@ -163,12 +167,12 @@ module _ (cl : Cluster) (m : ℕ) (h : List Event) (legal : IsLegal cl h) (here 
       let set = quiescent.2 in
       let is_here : Actor → Bool = λ b. is_up b.node h in
       dead-greatest cl (lost_at cl m h) (folded cl m h) (filter is_here q)
-        (λ b among. (let kept = IsAmong-from_filter is_here b q among in member-candidate q set b kept.0 kept.1))
-        (λ b c among edge out. (
-          let kept = IsAmong-from_filter is_here c q among in
-          let owner = member-owner q set b c kept.0 kept.1 edge out in
-          IsAmong-filter is_here b q owner.0 owner.1))
-        a (IsAmong-filter is_here a q quiescent.1 up)
+      (λ b among. (let kept = IsAmong-from_filter is_here b q among in member-candidate q set b kept.0 kept.1))
+      (λ b c among edge out. (
+      let kept = IsAmong-from_filter is_here c q among in
+      let owner = member-owner q set b c kept.0 kept.1 edge out in
+      IsAmong-filter is_here b q owner.0 owner.1))
+      a (IsAmong-filter is_here a q quiescent.1 up)
 
   -- and so are those of m
   pub completeness : (a : Actor) → a.node ≡ m → IsQuiescent cl h a → IsAmong a (dead_at cl m h)

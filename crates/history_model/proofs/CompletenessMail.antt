@@ -1,7 +1,6 @@
 -- At a quiet point all that actors on nodes that are up sent was admitted, but for live messages; and what mail counts.
-use Rattle.std.proofs.Common.{◌≡◌, ◌≢◌, ◌<◌, ◌≤◌, ◌+◌, ◌-◌, ◌&&◌, ◌||◌, ◌==◌, ℕ, zero, suc, Bool, true, false, not, List, [], ◌∷◌, ◌++◌, length, take, drop, refl, sym, ◌∙◌, ap, subst, inl, inr, arith, IsTrue, IsFalse, cond, if◌then◌else◌, filter, sum_by, slice_get, option_to_list, Option, Some, None, add-one, take-append-drop}
-use Rattle.std.proofs.lemmas.Bool.{and_right, cond_both, false≢true, false_from_ne_true, true_from_ne_false}
-use Rattle.std.proofs.lemmas.List.Sums.{sum_by-cons}
+use Rattle.std.proofs.Common.{◌≡◌, ◌≢◌, ◌<◌, ◌≤◌, ◌+◌, ℕ, zero, suc, Bool, true, false, not, List, [], ◌∷◌, length, drop, refl, sym, ◌∙◌, ap, subst, inl, inr, arith, IsTrue, IsFalse, cond, filter, sum_by, slice_get, option_to_list, take-append-drop}
+use Rattle.std.proofs.lemmas.Bool.{false≢true, false_from_ne_true, true_from_ne_false}
 use Rattle.crgc_ids.specs.Actor.{Actor}
 use Rattle.crgc_ids.specs.Members.{IsAmong}
 use Rattle.history_model.specs.declared.events.Event.{Event}
@@ -47,7 +46,9 @@ carried-none a (x ∷ xs) none =
 -- ---- mail at a quiet point
 
 -- what actors on nodes that are up sent to b was admitted or is live, so its live messages aside all of it is b's mail
-pub quiet-mail : (cl : Cluster) (m : ℕ) (h : List Event) → IsLegal cl h → IsQuietPoint cl m h → (b : Actor) → IsTrue (is_up b.node h) → (w : Message → ℕ) → ((x : Message) → IsAmong x (all_sent h) → 0 < w x → IsTrue (is_up x.from.node h)) → ((x : Message) → IsLive h x → x.to ≡ b → w x ≡ 0) → sum_by w (mail b h) ≡ sum_by w (filter (is_to b) (all_sent h))
+pub quiet-mail : (cl : Cluster) (m : ℕ) (h : List Event) → IsLegal cl h → IsQuietPoint cl m h → (b : Actor) → IsTrue (is_up b.node h)
+    → (w : Message → ℕ) → ((x : Message) → IsAmong x (all_sent h) → 0 < w x → IsTrue (is_up x.from.node h))
+    → ((x : Message) → IsLive h x → x.to ≡ b → w x ≡ 0) → sum_by w (mail b h) ≡ sum_by w (filter (is_to b) (all_sent h))
 quiet-mail cl m h legal quiet b up w senders live =
     mail-all cl h legal b w (λ s k apart x there to some.
     let among = sent-among s b.node h x (message_at-among s b.node k h x (subst (IsAmong x) (sym there) (inl refl))) in
@@ -56,12 +57,12 @@ quiet-mail cl m h legal quiet b up w senders live =
     let On : ℕ → ℕ → Type 0 = λ s d. (n : ℕ) × (message_at s d n h ≡ x ∷ []) × IsFalse (is_closed s d h) × IsFalse (was_admitted s d n h) × (0 < copies s d n h) × (s ≢ d) in
     let opened = false_from_ne_true (is_closed s b.node h) (λ t. false≢true (sym (closed-crashed cl h legal s b.node t) ∙ sender)) in
     let on_link : IsFalse (was_admitted s b.node k h) → 0 < copies s b.node k h → IsOnLink h x = λ fresh copy.
-        subst (λ n. On n x.to.node) (sym among.1) (subst (On s) (sym among.2) (k, there, opened, fresh, copy, apart)) in
+    subst (λ n. On n x.to.node) (sym among.1) (subst (On s) (sym among.2) (k, there, opened, fresh, copy, apart)) in
     elim (quiet.delivered s b.node k apart sender up within) [
       | inl admitted ↦ admitted
       | inr copy ↦ true_from_ne_false (was_admitted s b.node k h) (λ fresh.
-        let none = live x (subst (λ n. IsTrue (is_up n h)) (sym among.2) up, inr (on_link fresh copy)) to in
-        absurd (omega (arith, none, some)))
+          let none = live x (subst (λ n. IsTrue (is_up n h)) (sym among.2) up, inr (on_link fresh copy)) to in
+          absurd (omega (arith, none, some)))
     ])
 
 some_chosen : (v : Bool) (n : ℕ) → 0 < cond v n 0 → v ≡ true
@@ -81,11 +82,12 @@ waiting-live h b up x waits =
     ((there.0, inl there.1), to)
 
 -- where no message for a is live, a took as many as nodes that are up sent to it and as it admitted from others
-pub quiet-takes : (cl : Cluster) (m : ℕ) (h : List Event) → IsLegal cl h → IsQuietPoint cl m h → (lost : ℕ → Bool) → ((x : Message) → IsAmong x (all_sent h) → lost x.from.node ≡ false → IsTrue (is_up x.from.node h))
+pub quiet-takes : (cl : Cluster) (m : ℕ) (h : List Event) → IsLegal cl h → IsQuietPoint cl m h → (lost : ℕ → Bool)
+    → ((x : Message) → IsAmong x (all_sent h) → lost x.from.node ≡ false → IsTrue (is_up x.from.node h))
     → (a : Actor) → IsTrue (is_up a.node h) → ((x : Message) → IsLive h x → x.to ≡ a → ⊥) → takes a h ≡ sum_by (counts_other lost) (filter (is_to a) (all_sent h)) + sum_by (counts_lost lost) (mail a h)
 quiet-takes cl m h legal quiet lost senders a up none =
     let from_up : (x : Message) → IsAmong x (all_sent h) → 0 < counts_other lost x → IsTrue (is_up x.from.node h) = λ x among some.
-        senders x among (not_true (lost x.from.node) (some_chosen (not (lost x.from.node)) 1 some)) in
+    senders x among (not_true (lost x.from.node) (some_chosen (not (lost x.from.node)) 1 some)) in
     let all = quiet-mail cl m h legal quiet a up (counts_other lost) from_up (λ x live to. absurd (none x live to)) in
     let split = mail-split lost (mail a h) in
     let most = takes-mail cl h legal a in
@@ -94,13 +96,14 @@ quiet-takes cl m h legal quiet lost senders a up none =
 
 -- where no live message carries a to b, what b took carries as many references to a as nodes that are up sent it and as
 -- it admitted from others
-pub quiet-carried : (cl : Cluster) (m : ℕ) (h : List Event) → IsLegal cl h → IsQuietPoint cl m h → (lost : ℕ → Bool) → ((x : Message) → IsAmong x (all_sent h) → lost x.from.node ≡ false → IsTrue (is_up x.from.node h))
+pub quiet-carried : (cl : Cluster) (m : ℕ) (h : List Event) → IsLegal cl h → IsQuietPoint cl m h → (lost : ℕ → Bool)
+    → ((x : Message) → IsAmong x (all_sent h) → lost x.from.node ≡ false → IsTrue (is_up x.from.node h))
     → (b a : Actor) → IsTrue (is_up b.node h) → ((x : Message) → IsLive h x → ¬ IsAmong a x.refs) → carried a (taken b h) ≡ sum_by (carries_other lost a) (filter (is_to b) (all_sent h)) + sum_by (carries_from lost a) (mail b h)
 quiet-carried cl m h legal quiet lost senders b a up none =
     let from_up : (x : Message) → IsAmong x (all_sent h) → 0 < carries_other lost a x → IsTrue (is_up x.from.node h) = λ x among some.
-        senders x among (not_true (lost x.from.node) (some_chosen (not (lost x.from.node)) (tally (same_actor a) x.refs) some)) in
+    senders x among (not_true (lost x.from.node) (some_chosen (not (lost x.from.node)) (tally (same_actor a) x.refs) some)) in
     let nothing : (x : Message) → IsLive h x → x.to ≡ b → carries_other lost a x ≡ 0 = λ x live _.
-        none_chosen (not (lost x.from.node)) (tally (same_actor a) x.refs) (tally-absent a x.refs (none x live)) in
+    none_chosen (not (lost x.from.node)) (tally (same_actor a) x.refs) (tally-absent a x.refs (none x live)) in
     let all = quiet-mail cl m h legal quiet b up (carries_other lost a) from_up nothing in
     let split = carried-split lost a (mail b h) in
     let parts = ap (carried a) (sym (take-append-drop (takes b h) (mail b h))) ∙ carried-append a (taken b h) (waiting b h) in

@@ -1,5 +1,5 @@
 -- At a quiet point all that the actors of the nodes that are up have noted is told, and so are their flags.
-use Rattle.std.proofs.Common.{◌≡◌, ◌<◌, ◌≤◌, ◌+◌, ◌&&◌, ◌||◌, ◌==◌, ℕ, Bool, true, false, not, List, [], ◌∷◌, ◌++◌, length, refl, sym, ◌∙◌, ap, subst, inl, inr, arith, IsTrue, IsFalse, cond, if◌then◌else◌, nat_lt, Option, Some, None, append_assoc, le_of_eq, length-append}
+use Rattle.std.proofs.Common.{◌≡◌, ◌<◌, ◌≤◌, ◌&&◌, ◌==◌, ℕ, Bool, true, false, not, List, [], ◌∷◌, ◌++◌, length, refl, sym, ◌∙◌, ap, subst, inl, inr, arith, IsTrue, cond, nat_lt, Option, Some, None, append_assoc, le_of_eq, length-append}
 use Rattle.std.proofs.lemmas.Bool.{cond_both, false≢true, or_parts}
 use Rattle.std.proofs.lemmas.Bool.Decides.{Decides-ltb}
 use Rattle.std.specs.Bool.{beq}
@@ -10,12 +10,12 @@ use Rattle.history_model.specs.declared.events.Event.TheVariants.{Flush, Publish
 use Rattle.history_model.specs.Cluster.{Cluster, same_actor, is_born}
 use Rattle.history_model.specs.Facts.{Fact, flagged, Flags, Note, notes}
 use Rattle.history_model.specs.State.{is_busy, is_root, is_up}
-use Rattle.history_model.specs.Streams.{Notice, delta, window_of, final_of, facts_by, log, flags_at, flushed_flags, are_flags, is_blank, can_flush, entry, queue, window, stream}
+use Rattle.history_model.specs.Streams.{delta, window_of, final_of, facts_by, log, flags_at, flushed_flags, are_flags, is_blank, entry, queue, window, stream}
 use Rattle.history_model.specs.Folds.{cut_at}
 use Rattle.history_model.specs.Legal.{IsLegal}
 use Rattle.history_model.specs.Quiescent.{IsQuietPoint}
 use Rattle.history_model.proofs.Basics.{and_true, legal-before, same_actor-refl, true_or_false}
-use Rattle.history_model.proofs.Sums.{noted_sum, told_sum, publish_cut, flush_cut, flags_cut, told_cut}
+use Rattle.history_model.proofs.Sums.{noted_sum, told_sum, publish_cut, flags_cut, told_cut}
 use Rattle.history_model.proofs.AccountsBirths.{born-grows, born-on_node, notes-born}
 use Rattle.history_model.proofs.FoldSumsCuts.{flush_cut-last, is_flush_of, last_flush, last_flush-here, last_flush-other}
 use Rattle.history_model.proofs.FoldSumsLogs.{log-flushed, log-next}
@@ -50,7 +50,8 @@ other_event : {P : Type 0} → false ≡ true → P
 other_event t = absurd (false≢true t)
 
 -- where the queue of a's node is empty, its flushes lie below the last publish
-flushes-published : (cl : Cluster) (a : Actor) (n : ℕ) (h : List Event) → length (stream cl a.node h) ≤ n → queue cl a.node h ≡ [] → AreFlushesBelow a (publish_cut cl a.node n h) h
+flushes-published : (cl : Cluster) (a : Actor) (n : ℕ) (h : List Event) → length (stream cl a.node h) ≤ n → queue cl a.node h ≡ []
+    → AreFlushesBelow a (publish_cut cl a.node n h) h
 flushes-published cl a n [] all empty = tt
 flushes-published cl a n (Flush b ∷ p) all empty =
     let Left : Bool → Type 0 = λ v. cond v (queue cl a.node p ++ entry cl b p) (queue cl a.node p) ≡ [] → (v ≡ false) × (queue cl a.node p ≡ []) in
@@ -63,11 +64,11 @@ flushes-published cl a n (Flush b ∷ p) all empty =
 flushes-published cl a n (Publish m ∷ p) all empty =
     let s = stream cl a.node p in
     let At : Bool → Type 0 = λ v.
-        length (cond v (s ++ delta (queue cl a.node p) ∷ []) s) ≤ n → cond v [] (queue cl a.node p) ≡ []
-        → AreFlushesBelow a (cond (v && nat_lt (length s) n) (length p) (publish_cut cl a.node n p)) p in
+    length (cond v (s ++ delta (queue cl a.node p) ∷ []) s) ≤ n → cond v [] (queue cl a.node p) ≡ []
+    → AreFlushesBelow a (cond (v && nat_lt (length s) n) (length p) (publish_cut cl a.node n p)) p in
     let at_publish : At true = λ longer _.
-        let within : nat_lt (length s) n ≡ true = (Decides-ltb (length s) n).1 (omega (arith, longer, length-append s (delta (queue cl a.node p) ∷ []))) in
-        subst (λ v. AreFlushesBelow a (cond v (length p) (publish_cut cl a.node n p)) p) (sym within) (flushes-within a (length p) p (omega arith)) in
+    let within : nat_lt (length s) n ≡ true = (Decides-ltb (length s) n).1 (omega (arith, longer, length-append s (delta (queue cl a.node p) ∷ []))) in
+    subst (λ v. AreFlushesBelow a (cond v (length p) (publish_cut cl a.node n p)) p) (sym within) (flushes-within a (length p) p (omega arith)) in
     (other_event, (elim (m == a.node) as At [ true ↦ at_publish | false ↦ flushes-published cl a n p ]) all empty)
 flushes-published cl a n (Window d s ∷ p) all empty =
     (other_event, flushes-published cl a n p (shorter (d == a.node) (stream cl a.node p) (window_of s (window s d p)) n all) empty)
@@ -108,7 +109,8 @@ noted-log cl a e p x among by blank =
     ]
 
 -- where a's log is blank, what it noted lies below its last flush
-noted-flushed : (cl : Cluster) (a : Actor) (t : ℕ) (q : List Event) (e : Event) (p : List Event) (x : Note) → AreFlushesBelow a t (q ++ e ∷ p) → log cl a (q ++ e ∷ p) ≡ []
+noted-flushed : (cl : Cluster) (a : Actor) (t : ℕ) (q : List Event) (e : Event) (p : List Event) (x : Note) → AreFlushesBelow a t (q ++ e ∷ p)
+    → log cl a (q ++ e ∷ p) ≡ []
     → IsAmong x (notes cl e p) → x.by ≡ a → length p < last_flush 0 length a t (q ++ e ∷ p)
 noted-flushed cl a t [] e p x below blank among by = absurd (noted-log cl a e p x among by blank)
 noted-flushed cl a t (f ∷ q) e p x below blank among by =
@@ -117,14 +119,16 @@ noted-flushed cl a t (f ∷ q) e p x below blank among by =
     elim (true_or_false (is_flush_of a f)) [
       | inl flush ↦ subst (λ n. length p < n) (sym (last_flush-here 0 length a t f r flush (below.0 flush))) longer
       | inr other ↦ (
-        let before = append-empty (log cl a r) (facts_by a (notes cl f r)) (sym (log-next cl a f r other) ∙ blank) in
-        subst (λ n. length p < n) (sym (last_flush-other 0 length a t f r other)) (noted-flushed cl a t q e p x below.1 before among by))
+          let before = append-empty (log cl a r) (facts_by a (notes cl f r)) (sym (log-next cl a f r other) ∙ blank) in
+          subst (λ n. length p < n) (sym (last_flush-other 0 length a t f r other)) (noted-flushed cl a t q e p x below.1 before among by))
     ]
 
 -- ---- sums
 
 -- all is told, where each note that passes the test lies below its noter's cut
-told-within : (cl : Cluster) (u : Actor → ℕ) (t : Note → Bool) (h : List Event) → ((q : List Event) (e : Event) (p : List Event) (x : Note) → h ≡ q ++ e ∷ p → IsAmong x (notes cl e p) → t x ≡ true → length p < u x.by) → (q p : List Event) → h ≡ q ++ p → told_sum cl u t p ≡ noted_sum cl t p
+told-within : (cl : Cluster) (u : Actor → ℕ) (t : Note → Bool) (h : List Event)
+    → ((q : List Event) (e : Event) (p : List Event) (x : Note) → h ≡ q ++ e ∷ p → IsAmong x (notes cl e p) → t x ≡ true → length p < u x.by)
+    → (q p : List Event) → h ≡ q ++ p → told_sum cl u t p ≡ noted_sum cl t p
 told-within cl u t h all q [] parts = refl
 told-within cl u t h all q (e ∷ p) parts =
     told-next cl u t e p (λ x. all q e p x parts) (told-within cl u t h all (q ++ e ∷ []) p (parts ∙ sym (append_assoc q (e ∷ []) p)))
@@ -134,7 +138,8 @@ blank-empty [] blank = refl
 blank-empty (x ∷ xs) blank = absurd (false≢true blank)
 
 -- flags that differ from none are there, and are the same
-as_flushed : (found : Option Flags) (now : Flags) → are_flags found now ≡ true → (g : Flags) × (found ≡ Some g) × (g.busy ≡ now.busy) × (g.root ≡ now.root)
+as_flushed : (found : Option Flags) (now : Flags) → are_flags found now ≡ true
+    → (g : Flags) × (found ≡ Some g) × (g.busy ≡ now.busy) × (g.root ≡ now.root)
 as_flushed None now same = absurd (false≢true same)
 as_flushed (Some g) now same =
     let both = and_true (beq g.busy now.busy) (beq g.root now.root) same in
@@ -152,7 +157,8 @@ pub record IsTold (cl : Cluster) (m : ℕ) (h : List Event) (a : Actor) : Type 0
   pub flags : are_flags (flushed_flags a h) (flags_at a h) ≡ true
   pub flushes : AreFlushesBelow a (publish_cut cl a.node (cut_at cl m h a.node) h) h
 
-pub quiet-actor : (cl : Cluster) (m : ℕ) (h : List Event) → IsLegal cl h → IsQuietPoint cl m h → (a : Actor) → IsTrue (is_born a h) → IsTrue (is_up a.node h) → IsTold cl m h a
+pub quiet-actor : (cl : Cluster) (m : ℕ) (h : List Event) → IsLegal cl h → IsQuietPoint cl m h → (a : Actor) → IsTrue (is_born a h)
+    → IsTrue (is_up a.node h) → IsTold cl m h a
 quiet-actor cl m h legal quiet a born up =
     let told = or_parts (not (is_blank (log cl a h))) (not (are_flags (flushed_flags a h) (flags_at a h))) (quiet.flushed a born up) in
     let all : length (stream cl a.node h) ≤ cut_at cl m h a.node = le_of_eq (sym (quiet.folded a.node (born-on_node cl h legal a born) up)) in
@@ -163,20 +169,24 @@ quiet-actor cl m h legal quiet a born up =
     }
 
 -- at a quiet point all notes of actors on nodes that are up are told
-pub quiet-told : (cl : Cluster) (m : ℕ) (h : List Event) → IsLegal cl h → IsQuietPoint cl m h → (t : Note → Bool) → ((e : Event) (p : List Event) (x : Note) → IsAmong x (notes cl e p) → t x ≡ true → IsTrue (is_born x.by h) → IsTrue (is_up x.by.node h)) → told_sum cl (told_cut cl (cut_at cl m h) h) t h ≡ noted_sum cl t h
+pub quiet-told : (cl : Cluster) (m : ℕ) (h : List Event) → IsLegal cl h → IsQuietPoint cl m h → (t : Note → Bool)
+    → ((e : Event) (p : List Event) (x : Note) → IsAmong x (notes cl e p) → t x ≡ true → IsTrue (is_born x.by h) → IsTrue (is_up x.by.node h))
+    → told_sum cl (told_cut cl (cut_at cl m h) h) t h ≡ noted_sum cl t h
 quiet-told cl m h legal quiet t up =
     let below : (q : List Event) (e : Event) (p : List Event) (x : Note) → h ≡ q ++ e ∷ p → IsAmong x (notes cl e p) → t x ≡ true → length p < told_cut cl (cut_at cl m h) h x.by =
-        λ q e p x parts among pass.
-        let then_legal = legal-before cl q (e ∷ p) (subst (IsLegal cl) parts legal) in
-        let born = subst (λ r. IsTrue (is_born x.by r)) (sym parts) (born-grows x.by q (e ∷ p) (notes-born cl e p then_legal x among).0) in
-        let told = quiet-actor cl m h legal quiet x.by born (up e p x among pass born) in
-        let cut = publish_cut cl x.by.node (cut_at cl m h x.by.node) h in
-        subst (λ n. length p < n) (sym (flush_cut-last x.by cut h)) (subst (λ r. length p < last_flush 0 length x.by cut r) (sym parts)
-        (noted-flushed cl x.by cut q e p x (subst (AreFlushesBelow x.by cut) parts told.flushes) (subst (λ r. log cl x.by r ≡ []) parts told.blank) among refl)) in
+    λ q e p x parts among pass.
+    let then_legal = legal-before cl q (e ∷ p) (subst (IsLegal cl) parts legal) in
+    let born = subst (λ r. IsTrue (is_born x.by r)) (sym parts) (born-grows x.by q (e ∷ p) (notes-born cl e p then_legal x among).0) in
+    let told = quiet-actor cl m h legal quiet x.by born (up e p x among pass born) in
+    let cut = publish_cut cl x.by.node (cut_at cl m h x.by.node) h in
+    subst (λ n. length p < n) (sym (flush_cut-last x.by cut h)) (subst (λ r. length p < last_flush 0 length x.by cut r) (sym parts)
+    (noted-flushed cl x.by cut q e p x (subst (AreFlushesBelow x.by cut) parts told.flushes) (subst (λ r. log cl x.by r ≡ []) parts told.blank) among refl)) in
     told-within cl (told_cut cl (cut_at cl m h) h) t h below [] h refl
 
 -- and the flags of such an actor are as at its last flush
-pub flags-told : (cl : Cluster) (m : ℕ) (h : List Event) → IsLegal cl h → IsQuietPoint cl m h → (a : Actor) → IsTrue (is_born a h) → IsTrue (is_up a.node h) → (g : Flags) × (flags_cut a (publish_cut cl a.node (cut_at cl m h a.node) h) h ≡ Some g) × (g.busy ≡ is_busy a h) × (g.root ≡ is_root a h)
+pub flags-told : (cl : Cluster) (m : ℕ) (h : List Event) → IsLegal cl h → IsQuietPoint cl m h → (a : Actor) → IsTrue (is_born a h)
+    → IsTrue (is_up a.node h)
+    → (g : Flags) × (flags_cut a (publish_cut cl a.node (cut_at cl m h a.node) h) h ≡ Some g) × (g.busy ≡ is_busy a h) × (g.root ≡ is_root a h)
 flags-told cl m h legal quiet a born up =
     let told = quiet-actor cl m h legal quiet a born up in
     let flushed = as_flushed (flushed_flags a h) (flags_at a h) told.flags in

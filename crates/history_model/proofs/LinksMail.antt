@@ -281,14 +281,14 @@ module _ (cl : Cluster) (h : List Event) (c : ℕ → ℕ) (lost : ℕ → Bool)
   other_notices legal o differ =
       notices-by_node legal o
       ∙ sum_by-none (λ s. cond (lost s) (tally test (told_from s (take (c o) (stream cl o h)))) 0) (nodes_below cl.nodes)
-        (λ s _. cond_none (lost s) (tally test (told_from s (take (c o) (stream cl o h)))) (other_stream s o (ne_eqb o b.node differ)))
+      (λ s _. cond_none (lost s) (tally test (told_from s (take (c o) (stream cl o h)))) (other_stream s o (ne_eqb o b.node differ)))
 
   -- where b is on no node of the cluster, nothing that a fold admits counts
   admitted_facts-outside : IsLegal cl h → cl.nodes ≤ b.node → tally test (admitted_facts cl lost (fold_to cl c h)) ≡ 0
   admitted_facts-outside legal outside =
       tally-flat_map test (λ o. link_facts lost (take (c o) (stream cl o h))) (nodes_below cl.nodes)
       ∙ sum_by-none (λ o. tally test (link_facts lost (take (c o) (stream cl o h)))) (nodes_below cl.nodes)
-        (λ o among. other_notices legal o (λ e. (let below = IsAmong-from_range o 0 cl.nodes among in absurd (omega (arith, below.1, e, outside)))))
+      (λ o among. other_notices legal o (λ e. (let below = IsAmong-from_range o 0 cl.nodes among in absurd (omega (arith, below.1, e, outside)))))
 
   -- what a fold admits for b counts as much as the mail of b from lost nodes
   admitted_facts-mail : IsLegal cl h → AreSettled cl c lost h → b.node < cl.nodes → lost b.node ≡ false

@@ -1,6 +1,6 @@
 -- At the end of the history the members are a quiet set: they are at rest, no live message goes to them or carries a
 -- reference to one, and nobody else holds one. `Soundness` applies this to the dead of a fold.
-use Rattle.std.proofs.Common.{◌≡◌, ◌<◌, ◌≤◌, ◌+◌, ◌||◌, ℕ, Bool, true, false, not, cond, List, [], sum_by, filter, IsTrue, refl, sym, ◌∙◌, ap, subst, inl, inr, arith}
+use Rattle.std.proofs.Common.{◌≡◌, ◌<◌, ◌≤◌, ◌+◌, ℕ, Bool, true, false, not, cond, List, [], sum_by, filter, IsTrue, refl, sym, ◌∙◌, ap, subst, inl, inr, arith}
 use Rattle.std.proofs.lemmas.Bool.{false≢true}
 use Rattle.std.proofs.lemmas.List.{drop_all}
 use Rattle.std.proofs.lemmas.List.Sums.{sum_by-take-drop}
@@ -10,13 +10,13 @@ use Rattle.history_model.specs.declared.events.Event.{Event}
 use Rattle.history_model.specs.Tally.{tally}
 use Rattle.history_model.specs.Cluster.{Cluster, same_actor, is_born}
 use Rattle.history_model.specs.Messages.{Message, is_to, mail, message_at, takes, taken, waiting}
-use Rattle.history_model.specs.Facts.{Fact, created, is_created, names}
+use Rattle.history_model.specs.Facts.{is_created}
 use Rattle.history_model.specs.Held.{carried, gifts, got, gave, held}
 use Rattle.history_model.specs.State.{is_up}
 use Rattle.history_model.specs.Legal.{IsLegal}
 use Rattle.history_model.specs.Quiescent.{IsLive, IsOnLink, IsQuietSet}
 use Rattle.history_model.specs.Settled.{AreSettled}
-use Rattle.history_model.proofs.Basics.{and_true, true_or_false}
+use Rattle.history_model.proofs.Basics.{true_or_false}
 use Rattle.history_model.proofs.Sums.{all_sent}
 use Rattle.history_model.proofs.AccountsBirths.{born-on_node, mail-born, message_at-among, noted-born, sent-among, sent-born, waiting-among}
 use Rattle.history_model.proofs.AccountsMail.{mail-open, mail-sent}

@@ -1,5 +1,5 @@
 -- A quiet set stays quiet: in every longer legal history nobody outside it can use its members, and none of them acts.
-use Rattle.std.proofs.Common.{◌≡◌, ◌<◌, ◌≤◌, ◌⊎◌, Bool, true, false, List, [], ◌∷◌, ◌++◌, refl, sym, ◌∙◌, ap, subst, inl, inr, arith}
+use Rattle.std.proofs.Common.{List, [], ◌∷◌, ◌++◌, refl, sym, ◌∙◌, subst, inl, inr, arith}
 use Rattle.std.proofs.lemmas.Bool.{false≢true}
 use Rattle.crgc_ids.specs.Actor.{Actor}
 use Rattle.crgc_ids.specs.Members.{IsAmong}
@@ -16,7 +16,8 @@ use Rattle.history_model.proofs.StabilityMessages.{IsSent, live-next}
 use Rattle.history_model.proofs.StabilityState.{idle-next, legal-send, no_root-next}
 
 -- a sender is busy and holds all that it names, so it names no member
-sent-outside : (cl : Cluster) (e : Event) (p : List Event) (q : List Actor) → IsLegal cl (e ∷ p) → IsQuietSet cl p q → (m : Message) → IsSent e m → (a : Actor) → IsAmong a (m.to ∷ m.refs) → ¬ IsAmong a q
+sent-outside : (cl : Cluster) (e : Event) (p : List Event) (q : List Actor) → IsLegal cl (e ∷ p) → IsQuietSet cl p q → (m : Message) → IsSent e m
+    → (a : Actor) → IsAmong a (m.to ∷ m.refs) → ¬ IsAmong a q
 sent-outside cl (Send f t refs) p q legal quiet m new a named member =
     let rules = legal-send cl f t refs p legal in
     let holds = rules.holds a (subst (λ (x : Message). IsAmong a (x.to ∷ x.refs)) new named) in
@@ -25,7 +26,8 @@ sent-outside cl (Send f t refs) p q legal quiet m new a named member =
 sent-outside cl _ p q legal quiet m new a named member = absurd new
 
 -- what is live after the next event neither goes to nor carries a member
-live-outside : (cl : Cluster) (e : Event) (p : List Event) (q : List Actor) → IsLegal cl (e ∷ p) → IsQuietSet cl p q → (m : Message) → IsLive (e ∷ p) m → (a : Actor) → IsAmong a (m.to ∷ m.refs) → ¬ IsAmong a q
+live-outside : (cl : Cluster) (e : Event) (p : List Event) (q : List Actor) → IsLegal cl (e ∷ p) → IsQuietSet cl p q → (m : Message)
+    → IsLive (e ∷ p) m → (a : Actor) → IsAmong a (m.to ∷ m.refs) → ¬ IsAmong a q
 live-outside cl e p q legal quiet m live a named member =
     elim (live-next cl e p legal m live) [
       | inr new ↦ sent-outside cl e p q legal quiet m new a named member

@@ -1,5 +1,5 @@
 -- The next event of a legal history gives nobody a reference to a member of a quiet set.
-use Rattle.std.proofs.Common.{◌≡◌, ◌<◌, ◌≤◌, ◌+◌, ◌&&◌, ◌==◌, ℕ, zero, suc, Bool, true, false, List, [], ◌∷◌, ◌++◌, length, take, drop, refl, sym, ◌∙◌, ap, subst, inl, inr, arith, IsTrue, IsFalse, cond, if◌then◌else◌, filter, add-one, add-zero}
+use Rattle.std.proofs.Common.{◌≡◌, ◌≤◌, ◌+◌, ◌==◌, ℕ, zero, suc, true, List, [], ◌∷◌, take, drop, refl, sym, ◌∙◌, ap, subst, arith, if◌then◌else◌, filter, add-one, add-zero}
 use Rattle.std.proofs.lemmas.Bool.{and_right, cond_both, false_from_ne_true, false≢true}
 use Rattle.std.proofs.lemmas.List.{take-append-le}
 use Rattle.crgc_ids.specs.Actor.{Actor}
@@ -9,7 +9,7 @@ use Rattle.history_model.specs.declared.events.Event.TheVariants.{Seed, Tie, Tak
 use Rattle.history_model.specs.Tally.{tally}
 use Rattle.history_model.specs.Cluster.{Cluster, same_actor, newborn, is_born}
 use Rattle.history_model.specs.Messages.{Message, admitted_by, is_to, mail, takes, taken, waiting}
-use Rattle.history_model.specs.Facts.{Note, created, note_by, notes}
+use Rattle.history_model.specs.Facts.{Note, created, note_by}
 use Rattle.history_model.specs.Held.{is_note_of, gifts, carried, is_drop_of, held}
 use Rattle.history_model.specs.State.{is_busy, is_root}
 use Rattle.history_model.specs.Legal.{IsLegal}
@@ -36,7 +36,8 @@ no_newborn cl p q quiet n a member e =
     false≢true (sym (newborn-not_born n p) ∙ subst (λ x. is_born x p ≡ true) (sym e) (quiet.born a member))
 
 -- nothing is given to a member: newborns are none, roots are none, and a parent is busy
-gifts-next : (cl : Cluster) (e : Event) (p : List Event) (q : List Actor) → IsLegal cl (e ∷ p) → IsQuietSet cl p q → (b a : Actor) → IsAmong a q → gifts cl b a (e ∷ p) ≡ gifts cl b a p
+gifts-next : (cl : Cluster) (e : Event) (p : List Event) (q : List Actor) → IsLegal cl (e ∷ p) → IsQuietSet cl p q → (b a : Actor) → IsAmong a q
+    → gifts cl b a (e ∷ p) ≡ gifts cl b a p
 gifts-next cl (Seed n) p q legal quiet b a member =
     let new = newborn n p in
     let none = other_target b a new new new [] (no_newborn cl p q quiet n a member) in
@@ -65,7 +66,8 @@ tally-absent a xs none =
     tally-none (same_actor a) xs (λ x among same. none (subst (λ y. IsAmong y xs) (sym (same_actor-equal a x same)) among))
 
 -- the next message that is taken is the first that waits
-carried-take_suc : (a : Actor) (n : ℕ) (xs : List Message) (m : Message) (ms : List Message) → drop n xs ≡ m ∷ ms → carried a (take (suc n) xs) ≡ carried a (take n xs) + tally (same_actor a) m.refs
+carried-take_suc : (a : Actor) (n : ℕ) (xs : List Message) (m : Message) (ms : List Message) → drop n xs ≡ m ∷ ms
+    → carried a (take (suc n) xs) ≡ carried a (take n xs) + tally (same_actor a) m.refs
 carried-take_suc a zero [] m ms e = absurd (cc)
 carried-take_suc a zero (x ∷ xs) m ms e =
     let same : x ≡ m = cc in
@@ -77,7 +79,8 @@ carried-take_suc a (suc n) (x ∷ xs) m ms e =
     omega arith
 
 -- the messages taken carry no more references to a member
-carried-next : (cl : Cluster) (e : Event) (p : List Event) (q : List Actor) → IsLegal cl (e ∷ p) → IsQuietSet cl p q → (b a : Actor) → IsAmong a q → carried a (taken b (e ∷ p)) ≡ carried a (taken b p)
+carried-next : (cl : Cluster) (e : Event) (p : List Event) (q : List Actor) → IsLegal cl (e ∷ p) → IsQuietSet cl p q → (b a : Actor) → IsAmong a q
+    → carried a (taken b (e ∷ p)) ≡ carried a (taken b p)
 carried-next cl (Take x) p q legal quiet b a member =
     let some = some_waits (waiting x p) (legal-kept cl (Take x) p legal).1.1.1.0 in
     let live = take-live cl x p legal some.0 some.1 some.2 in
@@ -95,7 +98,8 @@ carried-next cl (Admit s d k) p q legal quiet b a member =
 carried-next cl _ p q legal quiet b a member = refl
 
 -- nobody comes to hold more references to a member
-pub held-next : (cl : Cluster) (e : Event) (p : List Event) (q : List Actor) → IsLegal cl (e ∷ p) → IsQuietSet cl p q → (b a : Actor) → IsAmong a q → held cl b a (e ∷ p) ≤ held cl b a p
+pub held-next : (cl : Cluster) (e : Event) (p : List Event) (q : List Actor) → IsLegal cl (e ∷ p) → IsQuietSet cl p q → (b a : Actor) → IsAmong a q
+    → held cl b a (e ∷ p) ≤ held cl b a p
 held-next cl e p q legal quiet b a member =
     let same_gifts = gifts-next cl e p q legal quiet b a member in
     let same_carried = carried-next cl e p q legal quiet b a member in

@@ -1,5 +1,5 @@
 -- What is live after the next event of a legal history was live before, or is the message that the event sends.
-use Rattle.std.proofs.Common.{◌≡◌, ◌≢◌, ◌<◌, ◌≤◌, ◌+◌, ◌-◌, ◌&&◌, ◌||◌, ◌⊎◌, ◌==◌, ℕ, zero, suc, Bool, true, false, not, List, [], ◌∷◌, ◌++◌, length, drop, refl, sym, ◌∙◌, ap, subst, inl, inr, arith, IsTrue, IsFalse, cond, if◌then◌else◌, nat_lt, filter, slice_get, option_to_list, Option, Some, None, add-one}
+use Rattle.std.proofs.Common.{◌≡◌, ◌≢◌, ◌<◌, ◌≤◌, ◌+◌, ◌-◌, ◌&&◌, ◌⊎◌, ◌==◌, ℕ, zero, suc, Bool, true, false, List, [], ◌∷◌, ◌++◌, length, drop, refl, sym, ◌∙◌, ap, subst, inl, inr, arith, IsFalse, if◌then◌else◌, nat_lt, filter, slice_get, option_to_list, Option, Some, None, add-one}
 use Rattle.std.proofs.lemmas.Bool.{cond_both, false≢true, or_parts}
 use Rattle.std.proofs.lemmas.Bool.Decides.{Decides-eqb, Decides-ltb}
 use Rattle.std.proofs.lemmas.List.{drop-append-le}
@@ -11,13 +11,12 @@ use Rattle.history_model.specs.declared.events.Event.TheVariants.{Take, Send, Ad
 use Rattle.history_model.specs.Tally.{tally}
 use Rattle.history_model.specs.Cluster.{Cluster, same_actor}
 use Rattle.history_model.specs.Messages.{Message, sent, message_at, is_admit, is_lose, is_repeat, is_removal, was_admitted, admitted_by, is_to, mail, takes, waiting, copies, is_closed}
-use Rattle.history_model.specs.State.{is_up}
 use Rattle.history_model.specs.Legal.{IsLegal}
 use Rattle.history_model.specs.Quiescent.{IsOnLink, IsLive}
-use Rattle.history_model.proofs.Basics.{and_true, eqb-equal, legal-kept, not_true, tally-append}
+use Rattle.history_model.proofs.Basics.{legal-kept, not_true, tally-append}
 use Rattle.history_model.proofs.AccountsBirths.{message_at-among, sent-among}
 use Rattle.history_model.proofs.AccountsCopies.{same_number}
-use Rattle.history_model.proofs.AccountsGrowth.{closed-stays, up-before}
+use Rattle.history_model.proofs.AccountsGrowth.{up-before}
 use Rattle.history_model.proofs.AccountsTaken.{takes-mail}
 
 -- the message is the one that the event sends
@@ -35,7 +34,8 @@ IsAmong-drop_suc x (suc n) (y ∷ ys) among = IsAmong-drop_suc x n ys among
 -- ---- what waits
 
 -- what waits after an event waited before, or the event admits it
-waiting-appended : (cl : Cluster) (p : List Event) → IsLegal cl p → (b : Actor) (more : List Message) (m : Message) → IsAmong m (drop (takes b p) (mail b p ++ filter (is_to b) more)) → IsAmong m (waiting b p) ⊎ IsAmong m more
+waiting-appended : (cl : Cluster) (p : List Event) → IsLegal cl p → (b : Actor) (more : List Message) (m : Message)
+    → IsAmong m (drop (takes b p) (mail b p ++ filter (is_to b) more)) → IsAmong m (waiting b p) ⊎ IsAmong m more
 waiting-appended cl p legal b more m among =
     let new = filter (is_to b) more in
     let split = drop-append-le (takes b p) (mail b p) new (takes-mail cl p legal b) in
@@ -44,7 +44,8 @@ waiting-appended cl p legal b more m among =
       | inr now ↦ inr (IsAmong-from_filter (is_to b) m more now).0
     ]
 
-waiting-next : (cl : Cluster) (e : Event) (p : List Event) → IsLegal cl (e ∷ p) → (b : Actor) (m : Message) → IsAmong m (waiting b (e ∷ p)) → IsAmong m (waiting b p) ⊎ IsAmong m (admitted_by e p)
+waiting-next : (cl : Cluster) (e : Event) (p : List Event) → IsLegal cl (e ∷ p) → (b : Actor) (m : Message) → IsAmong m (waiting b (e ∷ p))
+    → IsAmong m (waiting b p) ⊎ IsAmong m (admitted_by e p)
 waiting-next cl (Take x) p legal b m among =
     let Before : ℕ → Type 0 = λ n. IsAmong m (drop n (mail b p)) → IsAmong m (waiting b p) in
     let taken : Before (takes b p + 1) = subst Before (sym (add-one (takes b p))) (IsAmong-drop_suc m (takes b p) (mail b p)) in
@@ -62,7 +63,8 @@ one_at x (Some y) (inl e) = ap (λ z. z ∷ []) (sym e)
 one_at x (Some y) (inr e) = absurd e
 
 -- what an admission admits was on its link
-admitted-on_link : (cl : Cluster) (s d k : ℕ) (p : List Event) → IsLegal cl (Admit s d k ∷ p) → (m : Message) → IsAmong m (admitted_by (Admit s d k) p) → IsOnLink p m
+admitted-on_link : (cl : Cluster) (s d k : ℕ) (p : List Event) → IsLegal cl (Admit s d k ∷ p) → (m : Message)
+    → IsAmong m (admitted_by (Admit s d k) p) → IsOnLink p m
 admitted-on_link cl s d k p legal m among =
     let kept = legal-kept cl (Admit s d k) p legal in
     let Admitted : List Message → Type 0 = λ ms. IsAmong m ms → IsFalse (was_admitted s d k p) × IsAmong m (message_at s d k p) in
@@ -80,7 +82,8 @@ admitted-on_link cl s d k p legal m among =
     subst (λ x. On x m.to.node) (sym ends.1) (subst (On s) (sym ends.2) here)
 
 -- what an event admits was under way, or the event sends it
-admitted-source : (cl : Cluster) (e : Event) (p : List Event) → IsLegal cl (e ∷ p) → (m : Message) → IsAmong m (admitted_by e p) → IsOnLink p m ⊎ IsSent e m
+admitted-source : (cl : Cluster) (e : Event) (p : List Event) → IsLegal cl (e ∷ p) → (m : Message) → IsAmong m (admitted_by e p)
+    → IsOnLink p m ⊎ IsSent e m
 admitted-source cl (Send f t refs) p legal m among =
     let new : Message = record { from = f; to = t; refs = refs } in
     cond_both (f.node == t.node) (new ∷ []) [] (λ ms. IsAmong m ms → IsOnLink p m ⊎ (m ≡ new))
@@ -93,7 +96,8 @@ pub tally-more : {X : Type 0} (test : X → Bool) (x : X) (xs : List X) → tall
 tally-more test x xs = omega (arith, tally-append test (x ∷ []) xs)
 
 -- a place of a list with one more item at its end is a place of the list, or has that item
-slice_get-push : {A : Type 0} (xs : List A) (x : A) (k : ℕ) → ((k < length xs) × (slice_get (xs ++ x ∷ []) k ≡ slice_get xs k)) ⊎ ((y : A) → option_to_list (slice_get (xs ++ x ∷ []) k) ≡ y ∷ [] → y ≡ x)
+slice_get-push : {A : Type 0} (xs : List A) (x : A) (k : ℕ)
+    → ((k < length xs) × (slice_get (xs ++ x ∷ []) k ≡ slice_get xs k)) ⊎ ((y : A) → option_to_list (slice_get (xs ++ x ∷ []) k) ≡ y ∷ [] → y ≡ x)
 slice_get-push [] x zero = inr (λ y e. sym (cons_head x y e))
   where
     cons_head : {A : Type 0} (x y : A) → x ∷ [] ≡ y ∷ [] → x ≡ y
@@ -107,14 +111,16 @@ slice_get-push (z ∷ zs) x (suc k) =
     elim (slice_get-push zs x k) [ inl within ↦ inl (omega (arith, within.0), within.1) | inr last ↦ inr last ]
 
 -- what keeps a message on its link before the event
-on_link-before : (e : Event) (p : List Event) (m : Message) (on : IsOnLink (e ∷ p) m) → message_at m.from.node m.to.node on.0 p ≡ m ∷ [] → 0 < copies m.from.node m.to.node on.0 p → IsOnLink p m
+on_link-before : (e : Event) (p : List Event) (m : Message) (on : IsOnLink (e ∷ p) m) → message_at m.from.node m.to.node on.0 p ≡ m ∷ []
+    → 0 < copies m.from.node m.to.node on.0 p → IsOnLink p m
 on_link-before e p m on there some =
     let s = m.from.node in
     let d = m.to.node in
     (on.0, there, (or_parts (is_removal s d e) (is_closed s d p) on.2).1, (or_parts (is_admit s d on.0 e) (was_admitted s d on.0 p) on.3).1, some, on.5)
 
 -- copies that are neither new nor repeated were there before
-copies-before : (e : Event) (p : List Event) (s d k : ℕ) → sent s d (e ∷ p) ≡ sent s d p → tally (is_repeat s d k) (e ∷ p) ≡ tally (is_repeat s d k) p → 0 < copies s d k (e ∷ p) → 0 < copies s d k p
+copies-before : (e : Event) (p : List Event) (s d k : ℕ) → sent s d (e ∷ p) ≡ sent s d p → tally (is_repeat s d k) (e ∷ p) ≡ tally (is_repeat s d k) p
+    → 0 < copies s d k (e ∷ p) → 0 < copies s d k p
 copies-before e p s d k same_sent same_repeats some =
     let sends : ℕ → ℕ = λ n. if nat_lt k n then 1 else 0 in
     let same : sends (length (sent s d (e ∷ p))) ≡ sends (length (sent s d p)) = ap (λ xs. sends (length xs)) same_sent in
@@ -133,12 +139,12 @@ on_link-next cl (Send f t refs) p legal m on =
     let gone = tally (is_lose s d k) p + tally (is_admit s d k) p in
     let one_if : Bool → ℕ = λ v. if v then 1 else 0 in
     let Was : List Message → Type 0 = λ xs.
-        option_to_list (slice_get xs k) ≡ m ∷ [] → 0 < (one_if (nat_lt k (length xs)) + repeats) - gone → IsOnLink p m ⊎ (m ≡ new) in
+    option_to_list (slice_get xs k) ≡ m ∷ [] → 0 < (one_if (nat_lt k (length xs)) + repeats) - gone → IsOnLink p m ⊎ (m ≡ new) in
     let pushed : Was (sent s d p ++ new ∷ []) = λ there some. elim (slice_get-push (sent s d p) new k) [
       | inl within ↦
-        let before : one_if (nat_lt k (length (sent s d p))) ≡ 1 = ap one_if ((Decides-ltb k (length (sent s d p))).1 within.0) in
-        let most : one_if (nat_lt k (length (sent s d p ++ new ∷ []))) ≤ 1 = at_most_one (nat_lt k (length (sent s d p ++ new ∷ []))) in
-        inl (on_link-before (Send f t refs) p m on (sym (ap option_to_list within.1) ∙ there) (omega arith))
+          let before : one_if (nat_lt k (length (sent s d p))) ≡ 1 = ap one_if ((Decides-ltb k (length (sent s d p))).1 within.0) in
+          let most : one_if (nat_lt k (length (sent s d p ++ new ∷ []))) ≤ 1 = at_most_one (nat_lt k (length (sent s d p ++ new ∷ []))) in
+          inl (on_link-before (Send f t refs) p m on (sym (ap option_to_list within.1) ∙ there) (omega arith))
       | inr last ↦ inr (last m there)
     ] in
     let kept : Was (sent s d p) = λ there some. inl (on_link-before (Send f t refs) p m on there some) in
@@ -156,7 +162,7 @@ on_link-next cl (Repeat x y n) p legal m on =
     let had = (Decides-ltb 0 (copies x y n p)).0 (legal-kept cl (Repeat x y n) p legal).1.1.1.1.1.0 in
     let Had : ℕ → Type 0 = λ r. 0 < (sends + r) - gone → 0 < copies s d k p in
     let repeated : ((x == s) && ((y == d) && (n == k))) ≡ true → Had (tally (is_repeat s d k) p + 1) = λ hit _.
-        same_number x y n s d k hit (λ i j l. 0 < copies i j l p) had in
+    same_number x y n s d k hit (λ i j l. 0 < copies i j l p) had in
     let some = cond_both ((x == s) && ((y == d) && (n == k))) (tally (is_repeat s d k) p + 1) (tally (is_repeat s d k) p) Had repeated (λ _ some. some) on.4 in
     inl (on_link-before (Repeat x y n) p m on on.1 some)
 on_link-next cl e p legal m on =

@@ -1,5 +1,5 @@
 -- What the next event of a legal history does to births, to nodes, and to the flags of the members of a quiet set.
-use Rattle.std.proofs.Common.{◌≡◌, ◌<◌, ◌&&◌, ◌||◌, ◌⊎◌, ℕ, Bool, true, false, not, List, [], ◌∷◌, ◌++◌, map, refl, sym, ◌∙◌, ap, subst, inl, inr, IsTrue, IsFalse, cond, nat_lt}
+use Rattle.std.proofs.Common.{◌≡◌, ◌<◌, true, false, not, List, [], ◌∷◌, ◌++◌, map, refl, sym, ◌∙◌, subst, inl, inr, IsTrue, IsFalse, nat_lt}
 use Rattle.std.proofs.lemmas.Bool.{cond_both, false≢true}
 use Rattle.std.proofs.lemmas.Bool.Decides.{Decides-ltb}
 use Rattle.crgc_ids.specs.Actor.{Actor}
@@ -13,7 +13,7 @@ use Rattle.history_model.specs.State.{is_busy, is_root, is_up}
 use Rattle.history_model.specs.Legal.{Check, check, born_all, held_all, node_up, has_nothing, IsLegal}
 use Rattle.history_model.specs.declared.events.Rule.TheVariants.{NoActor, NotHeld, Idle}
 use Rattle.history_model.specs.Quiescent.{IsLive, IsQuietSet}
-use Rattle.history_model.proofs.Basics.{AreKept, legal-kept, not_true, same_actor-equal}
+use Rattle.history_model.proofs.Basics.{AreKept, legal-kept, same_actor-equal}
 use Rattle.history_model.proofs.AccountsBirths.{mail-among, newborn-not_born, waiting-among}
 
 -- ---- rules that are lists
@@ -55,7 +55,8 @@ some_waits [] t = absurd (false≢true t)
 some_waits (m ∷ ms) t = (m, ms, refl)
 
 -- where a take is allowed, the first waiting message is live
-pub take-live : (cl : Cluster) (b : Actor) (p : List Event) → IsLegal cl (Take b ∷ p) → (m : Message) (ms : List Message) → waiting b p ≡ m ∷ ms → IsLive p m × (m.to ≡ b)
+pub take-live : (cl : Cluster) (b : Actor) (p : List Event) → IsLegal cl (Take b ∷ p) → (m : Message) (ms : List Message) → waiting b p ≡ m ∷ ms
+    → IsLive p m × (m.to ≡ b)
 take-live cl b p legal m ms first =
     let kept = legal-kept cl (Take b) p legal in
     let waits : IsAmong m (waiting b p) = subst (IsAmong m) (sym first) (inl refl) in
@@ -65,7 +66,8 @@ take-live cl b p legal m ms first =
     ((live.0, inl live.1), to)
 
 -- a member of a quiet set stays idle: it is no root that could wake, and has no message to take
-pub idle-next : (cl : Cluster) (e : Event) (p : List Event) (q : List Actor) → IsLegal cl (e ∷ p) → IsQuietSet cl p q → (a : Actor) → IsAmong a q → IsFalse (is_busy a (e ∷ p))
+pub idle-next : (cl : Cluster) (e : Event) (p : List Event) (q : List Actor) → IsLegal cl (e ∷ p) → IsQuietSet cl p q → (a : Actor) → IsAmong a q
+    → IsFalse (is_busy a (e ∷ p))
 idle-next cl (Wake b) p q legal quiet a member =
     let root = (legal-kept cl (Wake b) p legal).1.1.0 in
     cond_both (same_actor b a) true (is_busy a p) (λ v. v ≡ false)
@@ -82,7 +84,8 @@ idle-next cl (Rest b) p q legal quiet a member =
 idle-next cl _ p q legal quiet a member = quiet.idle a member
 
 -- it stays no root: a seed gives an actor that was not born
-pub no_root-next : (cl : Cluster) (e : Event) (p : List Event) (q : List Actor) → IsQuietSet cl p q → (a : Actor) → IsAmong a q → IsFalse (is_root a (e ∷ p))
+pub no_root-next : (cl : Cluster) (e : Event) (p : List Event) (q : List Actor) → IsQuietSet cl p q → (a : Actor) → IsAmong a q
+    → IsFalse (is_root a (e ∷ p))
 no_root-next cl (Seed n) p q quiet a member =
     cond_both (same_actor (newborn n p) a) true (is_root a p) (λ v. v ≡ false)
     (λ s. absurd (false≢true (sym (newborn-not_born n p) ∙ subst (λ x. is_born x p ≡ true) (sym (same_actor-equal (newborn n p) a s)) (quiet.born a member))))

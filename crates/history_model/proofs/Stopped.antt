@@ -1,9 +1,8 @@
 -- Stopped actors: whom a sweep stopped is quiescent ever after, and after a sweep at a quiet point the stopped actors of
 -- the node are exactly its quiescent ones.
-use Rattle.std.proofs.Common.{◌≡◌, ◌<◌, ◌↔◌, ◌&&◌, ◌||◌, ◌==◌, ℕ, Bool, true, false, List, [], ◌∷◌, refl, sym, ◌∙◌, ap, inl, inr}
+use Rattle.std.proofs.Common.{◌≡◌, ◌↔◌, ◌==◌, ℕ, true, List, [], ◌∷◌, ◌∙◌, ap, inl, inr}
 use Rattle.std.proofs.lemmas.Bool.{and_from, false≢true, or_left, ltb-true}
 use Rattle.crgc_ids.specs.Actor.{Actor}
-use Rattle.crgc_ids.specs.Members.{IsAmong}
 use Rattle.history_model.specs.declared.events.Event.{Event}
 use Rattle.history_model.specs.declared.events.Event.TheVariants.{Sweep}
 use Rattle.history_model.specs.Cluster.{Cluster}
@@ -41,7 +40,8 @@ stopped-quiescent cl (Sweep m ∷ p) a legal stopped =
 stopped-quiescent cl (e ∷ p) a legal stopped = quiescent-stays cl (e ∷ []) p a legal (stopped-quiescent cl p a legal.1 stopped)
 
 -- after a sweep at a quiet point exactly the quiescent actors of the node are stopped
-pub quiet-stopped : (cl : Cluster) (m : ℕ) (h : List Event) → IsLegal cl (Sweep m ∷ h) → IsQuietPoint cl m h → (a : Actor) → a.node ≡ m → (is_stopped cl a (Sweep m ∷ h) ≡ true) ↔ IsQuiescent cl h a
+pub quiet-stopped : (cl : Cluster) (m : ℕ) (h : List Event) → IsLegal cl (Sweep m ∷ h) → IsQuietPoint cl m h → (a : Actor) → a.node ≡ m
+    → (is_stopped cl a (Sweep m ∷ h) ≡ true) ↔ IsQuiescent cl h a
 quiet-stopped cl m h legal quiet a on = (
   λ stopped. elim (or_true (is_swept cl m h a) (is_stopped cl a h) stopped) [
     | inl now ↦ swept-quiescent cl m h a legal.1 now
@@ -57,12 +57,15 @@ quiet-stopped cl m h legal quiet a on = (
 -- the sweep itself changes nothing of this
 pub sweep-quiescent : (cl : Cluster) (m : ℕ) (h : List Event) (a : Actor) → IsQuiescent cl (Sweep m ∷ h) a → IsQuiescent cl h a
 sweep-quiescent cl m h a quiescent =
-    let set = quiescent.2 in
-    (quiescent.0, quiescent.1, record {
-      born = set.born;
-      idle = set.idle;
-      no_root = set.no_root;
-      no_mail = set.no_mail;
-      not_carried = set.not_carried;
-      holders = set.holders;
-    })
+    let set = quiescent.2 in (
+      quiescent.0,
+      quiescent.1,
+      record {
+        born = set.born;
+        idle = set.idle;
+        no_root = set.no_root;
+        no_mail = set.no_mail;
+        not_carried = set.not_carried;
+        holders = set.holders;
+      },
+    )
