@@ -3,7 +3,7 @@ use Rattle.std.proofs.Common.{◌≡◌, ◌<◌, ◌+◌, ◌&&◌, ◌||◌, �
 use Rattle.std.proofs.lemmas.Bool.{false≢true}
 use Rattle.std.proofs.lemmas.Bool.Decides.{Decides-ltb}
 use Rattle.std.specs.List.{flat_map}
-use Rattle.crgc_ids.specs.Actor.{Actor}
+use Rattle.crgc_ids.specs.Actor.{Actor, is_actor_below}
 use Rattle.crgc_ids.specs.Nodes.{nodes_below}
 use Rattle.crgc_ids.specs.Members.{IsAmong}
 use Rattle.crgc_ids.proofs.MembersLaws.{IsAmong-append_cases, IsAmong-append_left, IsAmong-append_right, IsAmong-from_range, IsAmong-range, list_any-member, list_any-true}
@@ -12,7 +12,7 @@ use Rattle.history_model.specs.Cluster.{Cluster, same_actor}
 use Rattle.history_model.specs.Facts.{Fact, received, sent_to, created, released, flagged, is_created, names}
 use Rattle.history_model.specs.Streams.{Notice, delta, window_of, final_of}
 use Rattle.history_model.specs.Folds.{Fold}
-use Rattle.history_model.specs.Graph.{admitted_facts, carried_count, created_count, delta_facts, has_edge, holds_actor, insert_actor, is_actor_below, known_actors, link_facts, named_by, notice_facts, released_count, rising_actors, told_facts}
+use Rattle.history_model.specs.Graph.{admitted_facts, carried_count, created_count, delta_facts, has_edge, holds_actor, insert_actor, known_actors, link_facts, named_by, notice_facts, released_count, rising_actors, told_facts}
 use Rattle.history_model.proofs.Basics.{and_true, or_true, same_actor-equal, same_actor-refl}
 
 -- ---- members of lists
