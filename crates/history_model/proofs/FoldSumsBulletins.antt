@@ -2,8 +2,7 @@
 -- queue, a publish moves the queue into the stream. It is stated once, for any value of lists of facts.
 use Rattle.std.proofs.Common.{◌≡◌, ◌<◌, ◌≤◌, ◌&&◌, ℕ, suc, Bool, true, false, cond, List, [], ◌∷◌, ◌++◌, length, take, refl, sym, ◌∙◌, ap, inl, inr, arith, length-append}
 use Rattle.std.proofs.Math.Seq.{take-nil}
-use Rattle.std.proofs.lemmas.Bool.{cases_lt, false≢true}
-use Rattle.std.proofs.lemmas.Bool.Decides.{Decides-ltb}
+use Rattle.std.proofs.lemmas.Bool.{cases_lt, lt-ltb, ltb-false, ltb-true}
 use Rattle.std.proofs.lemmas.List.{append-nil, append_assoc, take_all, take-append-le}
 use Rattle.std.specs.Prelude.{◌==◌, nat_lt}
 use Rattle.crgc_ids.specs.Actor.{Actor}
@@ -14,11 +13,7 @@ use Rattle.history_model.specs.Facts.{Fact}
 use Rattle.history_model.specs.Streams.{Notice, delta, window_of, final_of, entry, queue, stream, window}
 use Rattle.history_model.specs.Graph.{delta_facts}
 use Rattle.history_model.proofs.Sums.{publish_cut}
-use Rattle.history_model.proofs.FoldSumsCuts.{below_true, publish_cut-within}
-
-abbrev pub is_flush_on : ℕ → Event → Bool
-is_flush_on o (Flush b) = b.node == o
-is_flush_on o _ = false
+use Rattle.history_model.proofs.FoldSumsCuts.{is_flush_on, publish_cut-within}
 
 -- `until t h` is what the entries of o's actors flushed before position t tell, as `value` tells it of a list of facts:
 -- `later` flushes add nothing, a flush at the end adds its entry
@@ -55,10 +50,6 @@ taken_link n xs y e =
       | inl more ↦ taken_more n xs y more ∙ ap (λ l. delta_facts (take n xs) ++ l) e ∙ append-nil (delta_facts (take n xs))
       | inr less ↦ taken_less n xs y less
     ]
-
-below-not : (n k : ℕ) → nat_lt k n ≡ false → n ≤ k
-below-not n k f =
-    elim (cases_lt k n) [ inl l ↦ absurd (false≢true (sym f ∙ below_true k n l)) | inr m ↦ m ]
 
 grown : (b : Bool) (xs : List Notice) (y : Notice) → length xs ≤ length (cond b (xs ++ y ∷ []) xs)
 grown true xs y = let longer = length-append xs (y ∷ []) in omega arith
@@ -100,13 +91,13 @@ module _ (cl : Cluster) (o : ℕ) {X : Type 0} (join : X → X → X) (value : L
       let s : List Notice = stream cl o p in
       let q : List Fact = queue cl o p in
       let at_end : until (suc (length p)) (Publish m ∷ p) ≡ until (length p) (Publish m ∷ p) =
-        laws.other (Publish m) p refl ∙ sym (laws.later (length p) (Publish m) p (omega arith)) in
+      laws.other (Publish m) p refl ∙ sym (laws.later (length p) (Publish m) p (omega arith)) in
       (elim (m == o) as (λ v. length (cond v (s ++ delta q ∷ []) s) ≤ n → until (suc (length p)) (Publish m ∷ p) ≡ join (until (cond (v && nat_lt (length s) n) (length p) (cut p)) (Publish m ∷ p)) (value (cond v [] q))) [
         | true ↦ λ more. (
-          let longer = length-append s (delta q ∷ []) in
-          at_end ∙ sym (laws.none (until (length p) (Publish m ∷ p)))
-          ∙ ap (λ w. join (until (cond w (length p) (cut p)) (Publish m ∷ p)) (value [])) (sym (below_true (length s) n (omega arith)))
-        )
+            let longer = length-append s (delta q ∷ []) in
+            at_end ∙ sym (laws.none (until (length p) (Publish m ∷ p)))
+            ∙ ap (λ w. join (until (cond w (length p) (cut p)) (Publish m ∷ p)) (value [])) (sym (lt-ltb (length s) n (omega arith)))
+            )
         | false ↦ λ _. queue-stays (Publish m) p (value q) refl before
       ]) l
 
@@ -137,13 +128,13 @@ module _ (cl : Cluster) (o : ℕ) {X : Type 0} (join : X → X → X) (value : L
       let s : List Notice = stream cl o p in
       let q : List Fact = queue cl o p in
       let whole : length s < n → told (s ++ delta q ∷ []) ≡ until (length p) (Publish m ∷ p) = λ l.
-        ap value (taken_more n s (delta q) l) ∙ ap (λ y. value (delta_facts (take n s) ++ y)) (append-nil q)
-        ∙ laws.append (delta_facts (take n s)) q ∙ ap (λ y. join y (value q)) before
-        ∙ sym (queue-value p (omega arith)) ∙ sym (laws.later (length p) (Publish m) p (omega arith)) in
+      ap value (taken_more n s (delta q) l) ∙ ap (λ y. value (delta_facts (take n s) ++ y)) (append-nil q)
+      ∙ laws.append (delta_facts (take n s)) q ∙ ap (λ y. join y (value q)) before
+      ∙ sym (queue-value p (omega arith)) ∙ sym (laws.later (length p) (Publish m) p (omega arith)) in
       let Goal : Bool → Type 0 = λ w. nat_lt (length s) n ≡ w → told (s ++ delta q ∷ []) ≡ until (cond w (length p) (cut p)) (Publish m ∷ p) in
       let goal : Goal (nat_lt (length s) n) = elim (nat_lt (length s) n) as Goal [
-        | true ↦ λ t. whole ((Decides-ltb (length s) n).0 t)
-        | false ↦ λ f. ap value (taken_less n s (delta q) (below-not n (length s) f)) ∙ stream-stays (Publish m) p before
+        | true ↦ λ t. whole (ltb-true (length s) n t)
+        | false ↦ λ f. ap value (taken_less n s (delta q) (ltb-false (length s) n f)) ∙ stream-stays (Publish m) p before
       ] in
       goal refl
 

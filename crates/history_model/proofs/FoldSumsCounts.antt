@@ -1,13 +1,12 @@
 -- The counts of a fold of a legal history are sums of the notes below the cuts.
-use Rattle.std.proofs.Common.{◌≡◌, ◌<◌, ◌≤◌, ◌+◌, ◌&&◌, ◌||◌, ℕ, zero, suc, Bool, true, false, cond, not, List, [], ◌∷◌, ◌++◌, length, refl, sym, ◌∙◌, ap, subst, inl, inr, arith}
-use Rattle.std.proofs.lemmas.Bool.{cases_lt, false≢true}
-use Rattle.std.proofs.lemmas.Bool.Decides.{Decides-ltb}
+use Rattle.std.proofs.Common.{◌≡◌, ◌≤◌, ◌+◌, ◌&&◌, ◌||◌, ℕ, zero, suc, Bool, true, false, cond, not, List, [], ◌∷◌, length, refl, sym, ◌∙◌, ap, inl, inr, arith}
+use Rattle.std.proofs.lemmas.Bool.{and_right, cases_lt, false_from_ne_true, le-ltb, ltb-true}
 use Rattle.std.specs.List.{flat_map, range_with_len}
 use Rattle.std.specs.Prelude.{◌==◌, nat_lt}
 use Rattle.crgc_ids.specs.Actor.{Actor}
 use Rattle.crgc_ids.specs.Nodes.{has_node, nodes_below}
-use Rattle.crgc_ids.specs.Members.{IsAmong}
-use Rattle.crgc_ids.proofs.MembersLaws.{IsAmong-from_range, IsAmong-range, list_any-member, list_any-true}
+use Rattle.crgc_ids.proofs.MembersLaws.{IsAmong-from_range, IsAmong-range}
+use Rattle.crgc_ids.proofs.NodesLaws.{has_node-from_true, has_node-member}
 use Rattle.history_model.specs.declared.events.Event.{Event}
 use Rattle.history_model.specs.declared.events.Event.TheVariants.{Publish}
 use Rattle.history_model.specs.Tally.{tally}
@@ -17,18 +16,18 @@ use Rattle.history_model.specs.Folds.{fold_to}
 use Rattle.history_model.specs.Graph.{received_count, told_count, created_count, released_count, delta_facts, told_facts}
 use Rattle.history_model.specs.Legal.{IsLegal}
 use Rattle.history_model.specs.Streams.{stream}
-use Rattle.history_model.proofs.Basics.{eqb-equal, eqb-refl, legal-kept, tally-append, true_or_false}
+use Rattle.history_model.proofs.Basics.{eqb-equal, legal-kept, tally-append, true_or_false}
 use Rattle.history_model.proofs.Sums.{flush_cut, publish_cut, told_cut, told_sum}
 use Rattle.history_model.proofs.FoldSumsNotes.{told-none, told-same}
-use Rattle.history_model.proofs.FoldSumsCuts.{and_false, below_false, flush_cut-below}
-use Rattle.history_model.proofs.FoldSumsStreams.{deltas-told, same-passing}
+use Rattle.history_model.proofs.FoldSumsCuts.{flush_cut-below}
+use Rattle.history_model.proofs.FoldSumsStreams.{deltas-told}
 
 -- ---- nodes outside the cluster publish nothing
 
 publish_cut-outside : (cl : Cluster) (o n : ℕ) (h : List Event) → IsLegal cl h → cl.nodes ≤ o → publish_cut cl o n h ≡ 0
 publish_cut-outside cl o n [] legal l = refl
 publish_cut-outside cl o n (Publish m ∷ p) legal l =
-    let inside = (Decides-ltb m cl.nodes).0 (legal-kept cl (Publish m) p legal).0 in
+    let inside = ltb-true m cl.nodes (legal-kept cl (Publish m) p legal).0 in
     let before = publish_cut-outside cl o n p legal.1 l in
     elim (true_or_false (m == o)) [
       | inl same ↦ (let e = eqb-equal m o same in absurd (omega arith))
@@ -65,7 +64,7 @@ told-split cl u r s t (f ∷ p) e =
     let before = told-split cl u r s t p e in
     let told : (Note → Bool) → Note → Bool = λ test x. nat_lt (length p) (u x.by) && test x in
     let here = tally-split (told r) (told s) (told t) (notes cl f p) (λ x.
-      elim (nat_lt (length p) (u x.by)) as (λ v. cond (v && r x) 1 0 ≡ cond (v && s x) 1 0 + cond (v && t x) 1 0) [ true ↦ e x | false ↦ omega arith ]) in
+    elim (nat_lt (length p) (u x.by)) as (λ v. cond (v && r x) 1 0 ≡ cond (v && s x) 1 0 + cond (v && t x) 1 0) [ true ↦ e x | false ↦ omega arith ]) in
     omega arith
 
 either_step : (c d s : Bool) → (c ≡ true → d ≡ false) → cond ((c || d) && s) 1 0 ≡ cond (c && s) 1 0 + cond (d && s) 1 0
@@ -78,16 +77,10 @@ either_step false d s none = omega arith
 -- no node of the range after a is a
 apart : (a n k : ℕ) → (k == a) ≡ true → has_node (range_with_len (a + 1) n) k ≡ false
 apart a n k same =
-    elim (true_or_false (has_node (range_with_len (a + 1) n) k)) [
-      | inl later ↦ (
-        let found = list_any-true (λ x. k == x) (range_with_len (a + 1) n) later in
-        let above = IsAmong-from_range found.0 (a + 1) n found.1 in
-        let first = eqb-equal k a same in
-        let second = eqb-equal k found.0 found.2 in
-        absurd (omega arith)
-      )
-      | inr none ↦ none
-    ]
+    false_from_ne_true (has_node (range_with_len (a + 1) n) k) (λ later.
+    let above = IsAmong-from_range k (a + 1) n (has_node-from_true (range_with_len (a + 1) n) k later) in
+    let first = eqb-equal k a same in
+    absurd (omega arith))
 
 module _ (cl : Cluster) (u : Actor → ℕ) (h : List Event) (t : Fact → Bool) (s : Note → Bool) (pieces : ℕ → List Fact) where
   -- what one node tells of the notes that pass, for each node
@@ -102,7 +95,7 @@ module _ (cl : Cluster) (u : Actor → ℕ) (h : List Event) (t : Fact → Bool)
       let rest : List ℕ = range_with_len (a + 1) n in
       let both = tally-append t (pieces a) (flat_map pieces rest) in
       let split = told-split cl u (λ x. ((x.by.node == a) || has_node rest x.by.node) && s x) (λ x. (x.by.node == a) && s x) (λ x. has_node rest x.by.node && s x) h
-        (λ x. either_step (x.by.node == a) (has_node rest x.by.node) (s x) (apart a n x.by.node)) in
+      (λ x. either_step (x.by.node == a) (has_node rest x.by.node) (s x) (apart a n x.by.node)) in
       omega arith
 
 -- ---- counts
@@ -118,10 +111,10 @@ module _ (cl : Cluster) (h : List Event) (c : ℕ → ℕ) (lost : ℕ → Bool)
   piece-lost : (o : ℕ) → lost o ≡ true → tally t (piece o) ≡ told_sum cl (told_cut cl c h) (λ x. (x.by.node == o) && counts x) h
   piece-lost o gone =
       let none : (x : Note) → ((x.by.node == o) && counts x) ≡ false = λ x.
-        elim (true_or_false (x.by.node == o)) [
-          | inl on ↦ and_false (x.by.node == o) (counts x) (ap (λ v. not v && t x.fact) (ap lost (eqb-equal x.by.node o on) ∙ gone))
-          | inr off ↦ ap (λ v. v && counts x) off
-        ] in
+      elim (true_or_false (x.by.node == o)) [
+        | inl on ↦ and_right (x.by.node == o) (counts x) (ap (λ v. not v && t x.fact) (ap lost (eqb-equal x.by.node o on) ∙ gone))
+        | inr off ↦ ap (λ v. v && counts x) off
+      ] in
       ap (λ v. tally t (cond v [] (delta_facts (fold_to cl c h o)))) gone
       ∙ sym (told-none cl (told_cut cl c h) (λ x. (x.by.node == o) && counts x) h none)
 
@@ -130,13 +123,13 @@ module _ (cl : Cluster) (h : List Event) (c : ℕ → ℕ) (lost : ℕ → Bool)
   same-cut o k x out =
       elim (true_or_false (x.by.node == o)) [
         | inl on ↦ (
-          let node = eqb-equal x.by.node o on in
-          ap (λ n. nat_lt k (flush_cut x.by (publish_cut cl n (c n) h) h) && ((x.by.node == o) && t x.fact)) (sym node)
-          ∙ ap (λ v. nat_lt k (told_cut cl c h x.by) && ((x.by.node == o) && (not v && t x.fact))) (sym (ap lost node ∙ out))
-        )
+            let node = eqb-equal x.by.node o on in
+            ap (λ n. nat_lt k (flush_cut x.by (publish_cut cl n (c n) h) h) && ((x.by.node == o) && t x.fact)) (sym node)
+            ∙ ap (λ v. nat_lt k (told_cut cl c h x.by) && ((x.by.node == o) && (not v && t x.fact))) (sym (ap lost node ∙ out))
+            )
         | inr off ↦
-            and_false (nat_lt k (flush_cut x.by (publish_cut cl o (c o) h) h)) ((x.by.node == o) && t x.fact) (ap (λ v. v && t x.fact) off)
-            ∙ sym (and_false (nat_lt k (told_cut cl c h x.by)) ((x.by.node == o) && counts x) (ap (λ v. v && counts x) off))
+            and_right (nat_lt k (flush_cut x.by (publish_cut cl o (c o) h) h)) ((x.by.node == o) && t x.fact) (ap (λ v. v && t x.fact) off)
+            ∙ sym (and_right (nat_lt k (told_cut cl c h x.by)) ((x.by.node == o) && counts x) (ap (λ v. v && counts x) off))
       ]
 
   piece-told : ((a : Actor) (g : Flags) → t (flagged a g) ≡ false) → IsEach cl (told_cut cl c h) h t counts piece
@@ -152,12 +145,12 @@ module _ (cl : Cluster) (h : List Event) (c : ℕ → ℕ) (lost : ℕ → Bool)
   inside legal k x =
       elim (cases_lt x.by.node cl.nodes) [
         | inl l ↦ ap (λ v. nat_lt k (told_cut cl c h x.by) && (v && counts x))
-            (list_any-member (λ n. x.by.node == n) x.by.node (nodes_below cl.nodes) (IsAmong-range x.by.node 0 cl.nodes (omega arith) (omega arith)) (eqb-refl x.by.node))
+            (has_node-member (nodes_below cl.nodes) x.by.node (IsAmong-range x.by.node 0 cl.nodes (omega arith) (omega arith)))
         | inr m ↦ (
-          let none = told_cut-outside cl h c x.by legal m in
-          let untold = below_false k (told_cut cl c h x.by) (omega arith) in
-          ap (λ v. v && (has_node (nodes_below cl.nodes) x.by.node && counts x)) untold ∙ ap (λ v. v && counts x) (sym untold)
-        )
+            let none = told_cut-outside cl h c x.by legal m in
+            let untold = le-ltb k (told_cut cl c h x.by) (omega arith) in
+            ap (λ v. v && (has_node (nodes_below cl.nodes) x.by.node && counts x)) untold ∙ ap (λ v. v && counts x) (sym untold)
+            )
       ]
 
   -- what the deltas of nodes that are not lost tell is what their actors noted below the cuts

@@ -1,6 +1,6 @@
 -- Cuts: where the last flush before a position lies, and the flags there. Both are one recursion, `last_flush`.
-use Rattle.std.proofs.Common.{◌≡◌, ◌<◌, ◌≤◌, ◌&&◌, ℕ, suc, Bool, true, false, cond, List, [], ◌∷◌, ◌++◌, length, refl, sym, ◌∙◌, ap, inl, inr, arith}
-use Rattle.std.proofs.lemmas.Bool.Decides.{Decides-ltb}
+use Rattle.std.proofs.Common.{◌≡◌, ◌<◌, ◌≤◌, ◌&&◌, ℕ, suc, Bool, true, false, cond, List, [], ◌∷◌, ◌++◌, length, refl, sym, ◌∙◌, ap, subst, inl, inr, arith}
+use Rattle.std.proofs.lemmas.Bool.{and_right, false≢true, le-ltb, lt-ltb, ltb-true}
 use Rattle.std.specs.Prelude.{◌==◌, nat_lt, Option, Some, None}
 use Rattle.crgc_ids.specs.Actor.{Actor}
 use Rattle.history_model.specs.declared.events.Event.{Event}
@@ -11,27 +11,25 @@ use Rattle.history_model.specs.Streams.{flags_at, stream}
 use Rattle.history_model.proofs.Basics.{and_true, same_actor-equal, true_or_false}
 use Rattle.history_model.proofs.Sums.{publish_cut, flush_cut, flags_cut}
 
--- ---- tests of an order
-
-pub below_true : (k n : ℕ) → k < n → nat_lt k n ≡ true
-below_true k n = (Decides-ltb k n).1
-
-pub below_false : (k n : ℕ) → n ≤ k → nat_lt k n ≡ false
-below_false k n l =
-    elim (true_or_false (nat_lt k n)) [
-      | inl t ↦ (let less = (Decides-ltb k n).0 t in absurd (omega arith))
-      | inr f ↦ f
-    ]
-
-pub and_false : (a b : Bool) → b ≡ false → (a && b) ≡ false
-and_false true b e = e
-and_false false b e = refl
-
 -- ---- the last flush before a position
 
 abbrev pub is_flush_of : Actor → Event → Bool
 is_flush_of a (Flush b) = same_actor b a
 is_flush_of a _ = false
+
+abbrev pub is_flush_on : ℕ → Event → Bool
+is_flush_on o (Flush b) = b.node == o
+is_flush_on o _ = false
+
+-- a flush of one of o's actors is one on o
+flush-on : (a : Actor) (o : ℕ) (e : Event) → is_flush_of a e ≡ true → (a.node == o) ≡ true → is_flush_on o e ≡ true
+flush-on a o (Flush b) f t = subst (λ c. (c.node == o) ≡ true) (sym (same_actor-equal b a f)) t
+flush-on a o e f t = absurd (false≢true f)
+
+-- an event that is no flush on a's node is none of a
+pub flush-elsewhere : (a : Actor) (o : ℕ) (e : Event) → (a.node == o) ≡ true → is_flush_on o e ≡ false → is_flush_of a e ≡ false
+flush-elsewhere a o e t f =
+    elim (true_or_false (is_flush_of a e)) [ inl flush ↦ absurd (false≢true (sym f ∙ flush-on a o e flush t)) | inr none ↦ none ]
 
 -- what `get` says of the history before the last flush of a before position t, or else `none`
 abbrev pub last_flush : {X : Type 0} → X → (List Event → X) → Actor → ℕ → List Event → X
@@ -47,12 +45,12 @@ module _ {X : Type 0} (none : X) (get : List Event → X) (a : Actor) where
   -- nor does an event at the position or above it
   pub last_flush-later : (t : ℕ) (e : Event) (p : List Event) → t ≤ length p → last_flush none get a t (e ∷ p) ≡ last_flush none get a t p
   last_flush-later t e p l =
-      ap (λ v. cond v (get p) (last_flush none get a t p)) (and_false (is_flush_of a e) (nat_lt (length p) t) (below_false (length p) t l))
+      ap (λ v. cond v (get p) (last_flush none get a t p)) (and_right (is_flush_of a e) (nat_lt (length p) t) (le-ltb (length p) t l))
 
   pub last_flush-here : (t : ℕ) (e : Event) (p : List Event) → is_flush_of a e ≡ true → length p < t → last_flush none get a t (e ∷ p) ≡ get p
   last_flush-here t e p f l =
       ap (λ v. cond (v && nat_lt (length p) t) (get p) (last_flush none get a t p)) f
-      ∙ ap (λ v. cond v (get p) (last_flush none get a t p)) (below_true (length p) t l)
+      ∙ ap (λ v. cond v (get p) (last_flush none get a t p)) (lt-ltb (length p) t l)
 
   -- all positions past the end are one
   pub last_flush-end : (t : ℕ) (h : List Event) → length h ≤ t → last_flush none get a t h ≡ last_flush none get a (length h) h
@@ -60,12 +58,17 @@ module _ {X : Type 0} (none : X) (get : List Event → X) (a : Actor) where
   last_flush-end t (e ∷ p) l =
       let low : length p < suc (length p) = omega arith in
       let tests : nat_lt (length p) t ≡ nat_lt (length p) (suc (length p)) =
-        below_true (length p) t (omega arith) ∙ sym (below_true (length p) (suc (length p)) low) in
+      lt-ltb (length p) t (omega arith) ∙ sym (lt-ltb (length p) (suc (length p)) low) in
       let before : last_flush none get a t p ≡ last_flush none get a (suc (length p)) p =
-        last_flush-end t p (omega arith) ∙ sym (last_flush-end (suc (length p)) p (omega arith)) in
+      last_flush-end t p (omega arith) ∙ sym (last_flush-end (suc (length p)) p (omega arith)) in
       ap (λ v. cond (is_flush_of a e && v) (get p) (last_flush none get a t p)) tests
       ∙ ap (λ x. cond (is_flush_of a e && nat_lt (length p) (suc (length p))) (get p) x) before
 
+  -- an event at the end that is no flush of a changes nothing
+  pub last_flush-skip : (e : Event) (p : List Event) → is_flush_of a e ≡ false → last_flush none get a (suc (length p)) (e ∷ p) ≡ last_flush none get a (length p) p
+  last_flush-skip e p f = last_flush-other (suc (length p)) e p f ∙ last_flush-end (suc (length p)) p (omega arith)
+
+-- the cut and the flags at it are such values
 pub flush_cut-last : (a : Actor) (t : ℕ) (h : List Event) → flush_cut a t h ≡ last_flush 0 length a t h
 flush_cut-last a t [] = refl
 flush_cut-last a t (Flush b ∷ p) = ap (λ x. cond (same_actor b a && nat_lt (length p) t) (length p) x) (flush_cut-last a t p)
@@ -92,9 +95,9 @@ flush-here a t b p g before =
     let Here : Bool → Type 0 = λ v. (same_actor b a && nat_lt (length p) t) ≡ v → cond v (Some (flags_at a p)) (flags_cut a t p) ≡ Some g → IsFlushAt a t (Flush b ∷ p) (cond v (length p) (flush_cut a t p)) g in
     let here : Here (same_actor b a && nat_lt (length p) t) = elim (same_actor b a && nat_lt (length p) t) as Here [
       | true ↦ λ tests e. (
-        let both = and_true (same_actor b a) (nat_lt (length p) t) tests in
-        ([], p, ap (λ c. Flush c ∷ p) (same_actor-equal b a both.0), refl, (Decides-ltb (length p) t).0 both.1, (cc))
-      )
+          let both = and_true (same_actor b a) (nat_lt (length p) t) tests in
+          ([], p, ap (λ c. Flush c ∷ p) (same_actor-equal b a both.0), refl, ltb-true (length p) t both.1, (cc))
+          )
       | false ↦ λ _ e. (let found = before e in (Flush b ∷ found.0, found.1, ap (λ l. Flush b ∷ l) found.2, found.3, found.4, found.5))
     ] in
     here refl
@@ -127,6 +130,9 @@ flush_cut-within a t (Flush b ∷ p) =
     elim (same_actor b a && nat_lt (length p) t) as (λ v. cond v (length p) (flush_cut a t p) ≤ suc (length p)) [ true ↦ omega arith | false ↦ omega arith ]
 flush_cut-within a t (e ∷ p) = let before = flush_cut-within a t p in omega arith
 
+pub last_flush-within : (a : Actor) (t : ℕ) (h : List Event) → last_flush 0 length a t h ≤ length h
+last_flush-within a t h = subst (λ c. c ≤ length h) (flush_cut-last a t h) (flush_cut-within a t h)
+
 pub publish_cut-within : (cl : Cluster) (o n : ℕ) (h : List Event) → publish_cut cl o n h ≤ length h
 publish_cut-within cl o n [] = omega arith
 publish_cut-within cl o n (Publish m ∷ p) =
@@ -140,7 +146,7 @@ flush_cut-below a t [] = omega arith
 flush_cut-below a t (Flush b ∷ p) =
     let Low : Bool → Type 0 = λ v. (same_actor b a && nat_lt (length p) t) ≡ v → cond v (length p) (flush_cut a t p) ≤ t in
     let low : Low (same_actor b a && nat_lt (length p) t) = elim (same_actor b a && nat_lt (length p) t) as Low [
-      | true ↦ λ e. (let less = (Decides-ltb (length p) t).0 (and_true (same_actor b a) (nat_lt (length p) t) e).1 in omega arith)
+      | true ↦ λ e. (let less = ltb-true (length p) t (and_true (same_actor b a) (nat_lt (length p) t) e).1 in omega arith)
       | false ↦ λ _. flush_cut-below a t p
     ] in
     low refl

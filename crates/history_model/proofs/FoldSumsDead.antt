@@ -1,11 +1,10 @@
 -- The dead of a fold: what holds of each, that they are closed under positive edges from outside the lost nodes, and
 -- that they are the greatest such set.
-use Rattle.std.proofs.Common.{◌≡◌, ◌+◌, ◌&&◌, ◌||◌, ◌⊎◌, ◌==◌, ℕ, Bool, true, false, not, List, [], ◌∷◌, refl, sym, ◌∙◌, ap, subst, inl, inr}
-use Rattle.std.proofs.lemmas.Bool.{false≢true}
-use Rattle.std.proofs.lemmas.Bool.Decides.{Decides-eqb}
+use Rattle.std.proofs.Common.{◌≡◌, ◌+◌, ◌&&◌, ◌||◌, ℕ, Bool, true, false, not, List, refl, sym, ap}
+use Rattle.std.proofs.lemmas.Bool.{and_from, eqb-true, false≢true, or_parts}
 use Rattle.std.specs.Prelude.{Option, Some, None}
 use Rattle.crgc_ids.specs.Actor.{Actor}
-use Rattle.crgc_ids.specs.Greatest.{AreFit, IsMonotone}
+use Rattle.crgc_ids.specs.Greatest.{IsMonotone}
 use Rattle.crgc_ids.specs.Members.{IsAmong, IsPart}
 use Rattle.crgc_ids.proofs.GreatestLaws.{greatest-contains, greatest-fit, greatest-part}
 use Rattle.crgc_ids.proofs.MembersLaws.{IsAmong-filter, IsAmong-from_filter, list_all-members, list_all-true}
@@ -13,21 +12,14 @@ use Rattle.history_model.specs.Cluster.{Cluster}
 use Rattle.history_model.specs.Facts.{Flags}
 use Rattle.history_model.specs.Folds.{Fold}
 use Rattle.history_model.specs.Graph.{admitted_count, candidates, dead, has_edge, holds_actor, is_balanced, is_pseudoroot, is_unreached, known_actors, may_act, own_flags, received_count, told_count}
-use Rattle.history_model.proofs.Basics.{and_true, not_true, or_true}
+use Rattle.history_model.proofs.Basics.{and_true, not_true}
 use Rattle.history_model.proofs.FoldSumsKnown.{edge-known, holds-among}
 
 -- ---- tests
 
-pub or_false : (a b : Bool) → (a || b) ≡ false → (a ≡ false) × (b ≡ false)
-or_false true b e = absurd (false≢true (sym e))
-or_false false b e = (refl, e)
-
 pub not_false : (a : Bool) → not a ≡ false → a ≡ true
 not_false true e = refl
 not_false false e = absurd (false≢true (sym e))
-
-and_intro : (a b : Bool) → a ≡ true → b ≡ true → (a && b) ≡ true
-and_intro a b s t = ap (λ v. v && b) s ∙ t
 
 -- ---- candidates
 
@@ -48,7 +40,7 @@ candidate-from cl lost f a h =
 pub candidate-among : (cl : Cluster) (lost : ℕ → Bool) (f : Fold) (a : Actor) → IsCandidate cl lost f a → IsAmong a (candidates cl lost f)
 candidate-among cl lost f a c =
     IsAmong-filter (λ b. not (lost b.node) && not (is_pseudoroot cl lost f b)) a (known_actors cl f) c.0
-    (and_intro (not (lost a.node)) (not (is_pseudoroot cl lost f a)) (ap not c.1) (ap not c.2))
+    (and_from (not (lost a.node)) (not (is_pseudoroot cl lost f a)) (ap not c.1) (ap not c.2))
 
 -- ---- members of the dead
 
@@ -61,7 +53,7 @@ pub record IsDeadActor (cl : Cluster) (lost : ℕ → Bool) (f : Fold) (a : Acto
 
 quiet-flags : (o : Option Flags) → may_act o ≡ false → (g : Flags) × (o ≡ Some g) × (g.busy ≡ false) × (g.root ≡ false)
 quiet-flags None e = absurd (false≢true (sym e))
-quiet-flags (Some g) e = (let both = or_false g.busy g.root e in (g, refl, both.0, both.1))
+quiet-flags (Some g) e = (let both = or_parts g.busy g.root e in (g, refl, both.0, both.1))
 
 pub dead-candidate : (cl : Cluster) (lost : ℕ → Bool) (f : Fold) (a : Actor) → IsAmong a (dead cl lost f) → IsCandidate cl lost f a
 unfolding dead
@@ -70,11 +62,11 @@ dead-candidate cl lost f a h = candidate-from cl lost f a (greatest-part (is_unr
 pub dead-member : (cl : Cluster) (lost : ℕ → Bool) (f : Fold) (a : Actor) → IsAmong a (dead cl lost f) → IsDeadActor cl lost f a
 dead-member cl lost f a h =
     let c = dead-candidate cl lost f a h in
-    let tests = or_false (may_act (own_flags f a)) (not (is_balanced cl lost f a)) c.2 in record {
+    let tests = or_parts (may_act (own_flags f a)) (not (is_balanced cl lost f a)) c.2 in record {
       known = c.0;
       not_lost = c.1;
       flags = quiet-flags (own_flags f a) tests.0;
-      balanced = (Decides-eqb (received_count cl f a) (told_count cl lost f a + admitted_count cl lost f a)).0 (not_false (is_balanced cl lost f a) tests.1);
+      balanced = eqb-true (received_count cl f a) (told_count cl lost f a + admitted_count cl lost f a) (not_false (is_balanced cl lost f a) tests.1);
     }
 
 -- ---- closed lists

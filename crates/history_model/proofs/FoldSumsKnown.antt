@@ -1,7 +1,6 @@
 -- The known actors of a fold, and what holds of every positive edge.
-use Rattle.std.proofs.Common.{◌≡◌, ◌<◌, ◌+◌, ◌&&◌, ◌||◌, ◌↔◌, ◌⊎◌, ℕ, Bool, true, false, cond, List, [], ◌∷◌, ◌++◌, refl, sym, ◌∙◌, ap, subst, inl, inr, arith}
-use Rattle.std.proofs.lemmas.Bool.{false≢true}
-use Rattle.std.proofs.lemmas.Bool.Decides.{Decides-ltb}
+use Rattle.std.proofs.Common.{◌≡◌, ◌<◌, ◌+◌, ◌||◌, ◌↔◌, ◌⊎◌, ℕ, Bool, true, false, cond, List, [], ◌∷◌, ◌++◌, refl, sym, ◌∙◌, subst, inl, inr, arith}
+use Rattle.std.proofs.lemmas.Bool.{false≢true, ltb-true, or_left, or_right}
 use Rattle.std.specs.List.{flat_map}
 use Rattle.crgc_ids.specs.Actor.{Actor, is_actor_below}
 use Rattle.crgc_ids.specs.Nodes.{nodes_below}
@@ -31,7 +30,7 @@ pub tally-some : {X : Type 0} (test : X → Bool) (xs : List X) → 0 < tally te
 tally-some test [] l = absurd (omega arith)
 tally-some {X} test (y ∷ ys) l =
     let later : 0 < tally test ys → (x : X) × IsAmong x (y ∷ ys) × (test x ≡ true) =
-      λ m. (let found = tally-some test ys m in (found.0, inr found.1, found.2)) in
+    λ m. (let found = tally-some test ys m in (found.0, inr found.1, found.2)) in
     let Found : Bool → Type 0 = λ v. test y ≡ v → 0 < cond v (tally test ys + 1) (tally test ys) → (x : X) × IsAmong x (y ∷ ys) × (test x ≡ true) in
     let found : Found (test y) = elim (test y) as Found [ true ↦ λ t _. (y, inl refl, t) | false ↦ λ _ m. later m ] in
     found refl l
@@ -57,9 +56,9 @@ insert-among a b [] h = h
 insert-among a b (c ∷ cs) h =
     let Kept : Type 0 = (a ≡ b) ⊎ IsAmong a (c ∷ cs) in
     let later : IsAmong a (c ∷ insert_actor b cs) → Kept =
-      λ k. elim k [ inl e ↦ inr (inl e) | inr m ↦ elim (insert-among a b cs m) [ inl e ↦ inl e | inr n ↦ inr (inr n) ] ] in
+    λ k. elim k [ inl e ↦ inr (inl e) | inr m ↦ elim (insert-among a b cs m) [ inl e ↦ inl e | inr n ↦ inr (inr n) ] ] in
     let below : IsAmong a (cond (is_actor_below b c) (b ∷ c ∷ cs) (c ∷ insert_actor b cs)) → Kept =
-      elim (is_actor_below b c) as (λ v. IsAmong a (cond v (b ∷ c ∷ cs) (c ∷ insert_actor b cs)) → Kept) [ true ↦ λ k. k | false ↦ later ] in
+    elim (is_actor_below b c) as (λ v. IsAmong a (cond v (b ∷ c ∷ cs) (c ∷ insert_actor b cs)) → Kept) [ true ↦ λ k. k | false ↦ later ] in
     (elim (same_actor b c) as (λ v. IsAmong a (cond v (c ∷ cs) (cond (is_actor_below b c) (b ∷ c ∷ cs) (c ∷ insert_actor b cs))) → Kept) [
       | true ↦ λ k. inr k
       | false ↦ below
@@ -69,9 +68,9 @@ insert-keeps : (a b : Actor) (xs : List Actor) → (a ≡ b) ⊎ IsAmong a xs �
 insert-keeps a b [] h = h
 insert-keeps a b (c ∷ cs) h =
     let later : IsAmong a (c ∷ insert_actor b cs) =
-      elim h [ inl e ↦ inr (insert-keeps a b cs (inl e)) | inr k ↦ elim k [ inl e ↦ inl e | inr m ↦ inr (insert-keeps a b cs (inr m)) ] ] in
+    elim h [ inl e ↦ inr (insert-keeps a b cs (inl e)) | inr k ↦ elim k [ inl e ↦ inl e | inr m ↦ inr (insert-keeps a b cs (inr m)) ] ] in
     let below : IsAmong a (cond (is_actor_below b c) (b ∷ c ∷ cs) (c ∷ insert_actor b cs)) =
-      elim (is_actor_below b c) as (λ v. IsAmong a (cond v (b ∷ c ∷ cs) (c ∷ insert_actor b cs))) [ true ↦ h | false ↦ later ] in
+    elim (is_actor_below b c) as (λ v. IsAmong a (cond v (b ∷ c ∷ cs) (c ∷ insert_actor b cs))) [ true ↦ h | false ↦ later ] in
     let Kept : Bool → Type 0 = λ v. same_actor b c ≡ v → IsAmong a (cond v (c ∷ cs) (cond (is_actor_below b c) (b ∷ c ∷ cs) (c ∷ insert_actor b cs))) in
     let kept : Kept (same_actor b c) = elim (same_actor b c) as Kept [
       | true ↦ λ t. elim h [ inl e ↦ inl (e ∙ same_actor-equal b c t) | inr k ↦ k ]
@@ -94,15 +93,11 @@ one-named a b = (
   λ h. elim h [ inl e ↦ subst (λ c. same_actor c a ≡ true) e (same_actor-refl a) | inr k ↦ absurd k ],
 )
 
-or_right : (a b : Bool) → b ≡ true → (a || b) ≡ true
-or_right true b t = refl
-or_right false b t = t
-
 two-named : (a b c : Actor) → ((same_actor b a || same_actor c a) ≡ true) ↔ IsAmong a (b ∷ c ∷ [])
 two-named a b c = (
   λ t. elim (or_true (same_actor b a) (same_actor c a) t) [ inl l ↦ inl (sym (same_actor-equal b a l)) | inr r ↦ inr (inl (sym (same_actor-equal c a r))) ],
   λ h. elim h [
-    | inl e ↦ ap (λ v. v || same_actor c a) ((one-named a b).1 (inl e))
+    | inl e ↦ or_left (same_actor b a) (same_actor c a) ((one-named a b).1 (inl e))
     | inr k ↦ or_right (same_actor b a) (same_actor c a) ((one-named a c).1 k)
   ],
 )
@@ -177,20 +172,20 @@ pub edge-known : (cl : Cluster) (lost : ℕ → Bool) (f : Fold) (b a : Actor) �
 edge-known cl lost f b a edge =
     let Both : Type 0 = IsAmong b (known_actors cl f) × IsAmong a (known_actors cl f) in
     let less : released_count cl f b a < created_count cl lost f b a + carried_count cl lost f b a =
-      (Decides-ltb (released_count cl f b a) (created_count cl lost f b a + carried_count cl lost f b a)).0 edge in
+    ltb-true (released_count cl f b a) (created_count cl lost f b a + carried_count cl lost f b a) edge in
     let told : ℕ → List Fact = λ o. cond (lost o) [] (delta_facts (f o)) in
     let admitted : ℕ → List Fact = λ o. link_facts lost (f o) in
     let from_told : 0 < created_count cl lost f b a → Both = λ l. (
-      let found = tally-some (is_created b a) (told_facts cl lost f) l in
-      let known = piece-known cl f told (λ o x. out-notice (lost o) x (f o)) found.0 found.1 in
-      let named = created-names b a found.0 found.2 in
-      (known b named.0, known a named.1)
+    let found = tally-some (is_created b a) (told_facts cl lost f) l in
+    let known = piece-known cl f told (λ o x. out-notice (lost o) x (f o)) found.0 found.1 in
+    let named = created-names b a found.0 found.2 in
+    (known b named.0, known a named.1)
     ) in
     let from_admitted : 0 < carried_count cl lost f b a → Both = λ l. (
-      let found = tally-some (is_created b a) (admitted_facts cl lost f) l in
-      let known = piece-known cl f admitted (λ o x. link-notice lost x (f o)) found.0 found.1 in
-      let named = created-names b a found.0 found.2 in
-      (known b named.0, known a named.1)
+    let found = tally-some (is_created b a) (admitted_facts cl lost f) l in
+    let known = piece-known cl f admitted (λ o x. link-notice lost x (f o)) found.0 found.1 in
+    let named = created-names b a found.0 found.2 in
+    (known b named.0, known a named.1)
     ) in
     let some : (0 < created_count cl lost f b a) ⊎ (0 < carried_count cl lost f b a) = grind arith in
     elim some [ inl l ↦ from_told l | inr l ↦ from_admitted l ]

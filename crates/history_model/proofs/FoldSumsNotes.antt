@@ -1,7 +1,6 @@
 -- Sums of told notes: how they compare with all notes, grow with the history, and depend on cuts and tests.
 use Rattle.std.proofs.Common.{◌≡◌, ◌<◌, ◌≤◌, ◌+◌, ◌&&◌, ℕ, Bool, true, false, cond, List, [], ◌∷◌, ◌++◌, length, map, refl, sym, ◌∙◌, ap, subst, inl, inr, arith}
-use Rattle.std.proofs.lemmas.Bool.{false≢true}
-use Rattle.std.proofs.lemmas.Bool.Decides.{Decides-ltb}
+use Rattle.std.proofs.lemmas.Bool.{and_from, false≢true, lt-ltb, ltb-true}
 use Rattle.std.specs.Prelude.{◌==◌, nat_lt}
 use Rattle.crgc_ids.specs.Actor.{Actor}
 use Rattle.crgc_ids.specs.Members.{IsAmong}
@@ -9,10 +8,9 @@ use Rattle.history_model.specs.declared.events.Event.{Event}
 use Rattle.history_model.specs.declared.events.Event.TheVariants.{Seed, Tie, Take, Spawn, Send, Drop}
 use Rattle.history_model.specs.Tally.{tally}
 use Rattle.history_model.specs.Cluster.{Cluster, same_actor, newborn}
-use Rattle.history_model.specs.Facts.{Fact, Note, received, sent_to, created, released, is_received, is_released, note_by, notes}
+use Rattle.history_model.specs.Facts.{Note, received, sent_to, created, released, is_received, is_released, note_by, notes}
 use Rattle.history_model.proofs.Basics.{and_true, same_actor-equal}
 use Rattle.history_model.proofs.Sums.{noted_sum, told_sum}
-use Rattle.history_model.proofs.FoldSumsCuts.{below_true}
 
 -- ---- tallies
 
@@ -44,11 +42,6 @@ tally-none s xs h =
     tally-false [] = refl
     tally-false (y ∷ ys) = tally-false ys
 
--- ---- tests on cuts
-
-both_true : (a b : Bool) → a ≡ true → b ≡ true → (a && b) ≡ true
-both_true a b s t = ap (λ v. v && b) s ∙ t
-
 -- ---- told and noted
 
 -- what is told was noted
@@ -62,10 +55,6 @@ told-noted cl u t (e ∷ p) =
 pub told-grows : (cl : Cluster) (u : Actor → ℕ) (t : Note → Bool) (q p : List Event) → told_sum cl u t p ≤ told_sum cl u t (q ++ p)
 told-grows cl u t [] p = omega arith
 told-grows cl u t (e ∷ q) p = let before = told-grows cl u t q p in omega arith
-
-pub noted-grows : (cl : Cluster) (t : Note → Bool) (q p : List Event) → noted_sum cl t p ≤ noted_sum cl t (q ++ p)
-noted-grows cl t [] p = omega arith
-noted-grows cl t (e ∷ q) p = let before = noted-grows cl t q p in omega arith
 
 -- the notes that pass the test are told below position k
 abbrev pub AreToldFrom : Cluster → (Actor → ℕ) → (Note → Bool) → ℕ → Type 0
@@ -81,7 +70,7 @@ AreToldBelow cl u t k =
 pub told-next : (cl : Cluster) (u : Actor → ℕ) (t : Note → Bool) (e : Event) (p : List Event) → ((x : Note) → IsAmong x (notes cl e p) → t x ≡ true → length p < u x.by) → told_sum cl u t p ≡ noted_sum cl t p → told_sum cl u t (e ∷ p) ≡ noted_sum cl t (e ∷ p)
 told-next cl u t e p all before =
     let here = tally-implies t (λ n. nat_lt (length p) (u n.by) && t n) (notes cl e p)
-      (λ x m s. both_true (nat_lt (length p) (u x.by)) (t x) (below_true (length p) (u x.by) (all x m s)) s) in
+    (λ x m s. and_from (nat_lt (length p) (u x.by)) (t x) (lt-ltb (length p) (u x.by) (all x m s)) s) in
     let most = told-noted cl u t (e ∷ p) in
     omega arith
 
@@ -99,10 +88,10 @@ told-below cl u t (e ∷ q) p below =
     let before = told-below cl u t q p below in
     let longer = length-grows q p in
     let here = tally-none (λ n. nat_lt (length (q ++ p)) (u n.by) && t n) (notes cl e (q ++ p)) (λ x m b.
-      let both = and_true (nat_lt (length (q ++ p)) (u x.by)) (t x) b in
-      let above = (Decides-ltb (length (q ++ p)) (u x.by)).0 both.0 in
-      let low = below e (q ++ p) x m both.1 in
-      absurd (omega arith)) in
+    let both = and_true (nat_lt (length (q ++ p)) (u x.by)) (t x) b in
+    let above = ltb-true (length (q ++ p)) (u x.by) both.0 in
+    let low = below e (q ++ p) x m both.1 in
+    absurd (omega arith)) in
     omega arith
   where
     length-grows : (r s : List Event) → length s ≤ length (r ++ s)
@@ -142,6 +131,7 @@ notes-kinds P is_sent is_made is_taken is_gone cl e p x h = go e h
   where
     one : (y : Note) → P y → IsAmong x (y ∷ []) → P x
     one y holds m = elim m [ inl q ↦ subst P (sym q) holds | inr none ↦ absurd none ]
+
     go : (e : Event) → IsAmong x (notes cl e p) → P x
     go (Seed n) m = one (note_by (newborn n p) (created (newborn n p) (newborn n p))) (is_made (newborn n p) (newborn n p) (newborn n p)) m
     go (Tie o t) m = one (note_by t (created o t)) (is_made t o t) m
@@ -149,7 +139,7 @@ notes-kinds P is_sent is_made is_taken is_gone cl e p x h = go e h
     go (Spawn a) m =
         let c : Actor = newborn a.node p in
         let by_parent : (v : Bool) → IsAmong x (cond v (note_by a (created c a) ∷ []) []) → P x =
-          elim [ true ↦ one (note_by a (created c a)) (is_made a c a) | false ↦ λ none. absurd none ] in
+        elim [ true ↦ one (note_by a (created c a)) (is_made a c a) | false ↦ λ none. absurd none ] in
         elim m [
           | inl q ↦ subst P (sym q) (is_made c c c)
           | inr r ↦ elim r [ inl q ↦ subst P (sym q) (is_made c a c) | inr l ↦ by_parent (cl.version == 2) l ]
@@ -158,10 +148,10 @@ notes-kinds P is_sent is_made is_taken is_gone cl e p x h = go e h
         elim m [
           | inl q ↦ subst P (sym q) (is_sent f t)
           | inr r ↦ (
-            let fact = IsAmong-from_map (note_by f) x (map (created t) refs) r in
-            let ref = IsAmong-from_map (created t) fact.0 refs fact.1 in
-            subst P (sym (fact.2 ∙ ap (note_by f) ref.2)) (is_made f t ref.0)
-          )
+              let fact = IsAmong-from_map (note_by f) x (map (created t) refs) r in
+              let ref = IsAmong-from_map (created t) fact.0 refs fact.1 in
+              subst P (sym (fact.2 ∙ ap (note_by f) ref.2)) (is_made f t ref.0)
+              )
         ]
     go (Drop a t) m = one (note_by a (released a t)) (is_gone a t) m
     go _ m = absurd m

@@ -1,6 +1,6 @@
 -- The dead are exactly the known actors outside the lost nodes that no pseudoroot reaches.
 use Rattle.std.proofs.Common.{◌≡◌, ◌↔◌, ◌⊎◌, ◌&&◌, ◌||◌, ℕ, zero, suc, Bool, true, false, not, List, [], ◌∷◌, length, refl, sym, ◌∙◌, subst, inl, inr}
-use Rattle.std.proofs.lemmas.Bool.{false≢true}
+use Rattle.std.proofs.lemmas.Bool.{false≢true, or_parts}
 use Rattle.std.specs.List.{filter, list_all}
 use Rattle.crgc_ids.specs.Actor.{Actor}
 use Rattle.crgc_ids.specs.Greatest.{greatest, prune}
@@ -12,7 +12,7 @@ use Rattle.history_model.specs.Graph.{candidates, dead, has_edge, holds_actor, i
 use Rattle.history_model.specs.Reached.{IsChain, IsReached}
 use Rattle.history_model.proofs.Basics.{true_or_false}
 use Rattle.history_model.proofs.FoldSumsKnown.{holds-among}
-use Rattle.history_model.proofs.FoldSumsDead.{candidate-among, dead-candidate, dead-closed, not_false, or_false}
+use Rattle.history_model.proofs.FoldSumsDead.{candidate-among, dead-candidate, dead-closed, not_false}
 
 list_all-false : {X : Type 0} (test : X → Bool) (xs : List X) → list_all test xs ≡ false → (x : X) × IsAmong x xs × (test x ≡ false)
 list_all-false test [] e = absurd (false≢true (sym e))
@@ -48,14 +48,14 @@ module _ (cl : Cluster) (lost : ℕ → Bool) (f : Fold) where
   reached-outside xs covers a e =
       let found = list_all-false (λ b. holds_actor xs b || (lost b.node || not (has_edge cl lost f b a))) (known_actors cl f) e in
       let b : Actor = found.0 in
-      let tests = or_false (holds_actor xs b) (lost b.node || not (has_edge cl lost f b a)) found.2 in
-      let more = or_false (lost b.node) (not (has_edge cl lost f b a)) tests.1 in
+      let tests = or_parts (holds_actor xs b) (lost b.node || not (has_edge cl lost f b a)) found.2 in
+      let more = or_parts (lost b.node) (not (has_edge cl lost f b a)) tests.1 in
       elim (covers b found.1 more.0) [
         | inl inside ↦ absurd (false≢true (sym tests.0 ∙ (holds-among xs b).1 inside))
         | inr reached ↦ (
-          let next = chain-next reached.0 b a reached.1 reached.3 more.0 (not_false (has_edge cl lost f b a) more.1) in
-          (reached.0, next.0, reached.2, next.1)
-        )
+            let next = chain-next reached.0 b a reached.1 reached.3 more.0 (not_false (has_edge cl lost f b a) more.1) in
+            (reached.0, next.0, reached.2, next.1)
+            )
       ]
 
   -- what is taken away is reached

@@ -12,6 +12,8 @@ pub mod FoldSumsDead
 pub mod FoldSumsReached
 pub mod FoldSumsCuts
 pub mod FoldSumsNotes
+pub mod FoldSumsLogs
+pub mod FoldSumsFlags
 pub mod FoldSumsBulletins
 pub mod FoldSumsStreams
 pub mod FoldSumsCounts
