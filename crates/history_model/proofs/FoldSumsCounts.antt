@@ -44,6 +44,7 @@ told_cut-outside cl h c a legal l =
 
 -- ---- sums over the nodes of the cluster
 
+-- where each item passes as often as the two tests together, so do all
 tally-split : {X : Type 0} (r s t : X → Bool) (xs : List X) → ((x : X) → cond (r x) 1 0 ≡ cond (s x) 1 0 + cond (t x) 1 0) → tally r xs ≡ tally s xs + tally t xs
 tally-split r s t [] e = omega arith
 tally-split r s t (x ∷ xs) e =
@@ -57,7 +58,6 @@ tally-split r s t (x ∷ xs) e =
     tally-one : {X : Type 0} (test : X → Bool) (y : X) (ys : List X) → tally test (y ∷ ys) ≡ tally test ys + cond (test y) 1 0
     tally-one test y ys = elim (test y) as (λ v. cond v (tally test ys + 1) (tally test ys) ≡ tally test ys + cond v 1 0) [ true ↦ omega arith | false ↦ omega arith ]
 
--- what passes one of two tests that exclude each other
 told-split : (cl : Cluster) (u : Actor → ℕ) (r s t : Note → Bool) (h : List Event) → ((x : Note) → cond (r x) 1 0 ≡ cond (s x) 1 0 + cond (t x) 1 0) → told_sum cl u r h ≡ told_sum cl u s h + told_sum cl u t h
 told-split cl u r s t [] e = omega arith
 told-split cl u r s t (f ∷ p) e =
@@ -67,6 +67,7 @@ told-split cl u r s t (f ∷ p) e =
     elim (nat_lt (length p) (u x.by)) as (λ v. cond (v && r x) 1 0 ≡ cond (v && s x) 1 0 + cond (v && t x) 1 0) [ true ↦ e x | false ↦ omega arith ]) in
     omega arith
 
+-- one of two tests that exclude each other
 either_step : (c d s : Bool) → (c ≡ true → d ≡ false) → cond ((c || d) && s) 1 0 ≡ cond (c && s) 1 0 + cond (d && s) 1 0
 either_step true d s none =
     let one : ℕ = cond s 1 0 in
@@ -108,6 +109,7 @@ module _ (cl : Cluster) (h : List Event) (c : ℕ → ℕ) (lost : ℕ → Bool)
   abbrev piece : ℕ → List Fact
   piece o = cond (lost o) [] (delta_facts (fold_to cl c h o))
 
+  -- a lost node tells nothing that counts
   piece-lost : (o : ℕ) → lost o ≡ true → tally t (piece o) ≡ told_sum cl (told_cut cl c h) (λ x. (x.by.node == o) && counts x) h
   piece-lost o gone =
       let none : (x : Note) → ((x.by.node == o) && counts x) ≡ false = λ x.
@@ -141,6 +143,7 @@ module _ (cl : Cluster) (h : List Event) (c : ℕ → ℕ) (lost : ℕ → Bool)
             ∙ told-same cl (λ a. flush_cut a (publish_cut cl o (c o) h) h) (told_cut cl c h) (λ x. (x.by.node == o) && t x.fact) (λ x. (x.by.node == o) && counts x) h (λ k _ x. same-cut o k x out)
       ]
 
+  -- what is told was noted on the cluster's nodes
   inside : IsLegal cl h → (k : ℕ) (x : Note) → (nat_lt k (told_cut cl c h x.by) && (has_node (nodes_below cl.nodes) x.by.node && counts x)) ≡ (nat_lt k (told_cut cl c h x.by) && counts x)
   inside legal k x =
       elim (cases_lt x.by.node cl.nodes) [

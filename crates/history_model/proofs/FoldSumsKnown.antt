@@ -11,7 +11,7 @@ use Rattle.history_model.specs.Cluster.{Cluster, same_actor}
 use Rattle.history_model.specs.Facts.{Fact, received, sent_to, created, released, flagged, is_created, names}
 use Rattle.history_model.specs.Streams.{Notice, delta, window_of, final_of}
 use Rattle.history_model.specs.Folds.{Fold}
-use Rattle.history_model.specs.Graph.{admitted_facts, carried_count, created_count, delta_facts, has_edge, holds_actor, insert_actor, known_actors, link_facts, named_by, notice_facts, released_count, rising_actors, told_facts}
+use Rattle.history_model.specs.Graph.{carried_count, created_count, delta_facts, has_edge, holds_actor, insert_actor, known_actors, link_facts, named_by, notice_facts, released_count, rising_actors}
 use Rattle.history_model.proofs.Basics.{and_true, or_true, same_actor-equal, same_actor-refl}
 
 -- ---- members of lists
@@ -87,6 +87,7 @@ rising-among a (b ∷ bs) = (
 
 -- ---- named and known actors
 
+-- the tests for one name and for two
 one-named : (a b : Actor) → (same_actor b a ≡ true) ↔ IsAmong a (b ∷ [])
 one-named a b = (
   λ t. inl (sym (same_actor-equal b a t)),
@@ -150,42 +151,35 @@ link-notice lost x (delta facts ∷ ns) h = IsAmong-append_right x facts (notice
 link-notice lost x (window_of s facts ∷ ns) h = link-piece x (lost s) facts (link_facts lost ns) (notice_facts ns) (link-notice lost x ns) h
 link-notice lost x (final_of s facts ∷ ns) h = link-piece x (lost s) facts (link_facts lost ns) (notice_facts ns) (link-notice lost x ns) h
 
--- a fact of pieces that are parts of the nodes' bulletins makes known whom it names
-piece-known : (cl : Cluster) (f : Fold) (pieces : ℕ → List Fact) → ((o : ℕ) (x : Fact) → IsAmong x (pieces o) → IsAmong x (notice_facts (f o))) → (x : Fact) → IsAmong x (flat_map pieces (nodes_below cl.nodes)) → (a : Actor) → names a x ≡ true → IsAmong a (known_actors cl f)
-piece-known cl f pieces part x h a t =
-    let found = IsAmong-from_flat_map pieces x (nodes_below cl.nodes) h in
-    let below = IsAmong-from_range found.0 0 cl.nodes found.1 in
-    (known-named cl f a).1 (found.0, omega arith, x, part found.0 x found.2, t)
-
+-- so is what the deltas of a node that is not lost tell
 out-notice : (b : Bool) (x : Fact) (ns : List Notice) → IsAmong x (cond b [] (delta_facts ns)) → IsAmong x (notice_facts ns)
 out-notice true x ns h = absurd h
 out-notice false x ns h = delta-notice x ns h
 
+-- what tells that a reference was made names its owner and its target
 created-names : (b a : Actor) (x : Fact) → is_created b a x ≡ true → (names b x ≡ true) × (names a x ≡ true)
 created-names b a (created c d) t =
     let both = and_true (same_actor c b) (same_actor d a) t in
     ((two-named b c d).1 (inl (sym (same_actor-equal c b both.0))), (two-named a c d).1 (inr (inl (sym (same_actor-equal d a both.1)))))
 created-names b a _ t = absurd (false≢true t)
 
+-- where pieces of the nodes' bulletins tell of a reference, its owner and its target are known
+pair-known : (cl : Cluster) (f : Fold) (b a : Actor) (pieces : ℕ → List Fact) → ((o : ℕ) (x : Fact) → IsAmong x (pieces o) → IsAmong x (notice_facts (f o))) → 0 < tally (is_created b a) (flat_map pieces (nodes_below cl.nodes)) → IsAmong b (known_actors cl f) × IsAmong a (known_actors cl f)
+pair-known cl f b a pieces part l =
+    let fact = tally-some (is_created b a) (flat_map pieces (nodes_below cl.nodes)) l in
+    let piece = IsAmong-from_flat_map pieces fact.0 (nodes_below cl.nodes) fact.1 in
+    let below = IsAmong-from_range piece.0 0 cl.nodes piece.1 in
+    let named = created-names b a fact.0 fact.2 in
+    let known : (c : Actor) → names c fact.0 ≡ true → IsAmong c (known_actors cl f) =
+      λ c t. (known-named cl f c).1 (piece.0, omega arith, fact.0, part piece.0 fact.0 piece.2, t) in
+    (known b named.0, known a named.1)
+
 -- both ends of a positive edge are known
 pub edge-known : (cl : Cluster) (lost : ℕ → Bool) (f : Fold) (b a : Actor) → has_edge cl lost f b a ≡ true → IsAmong b (known_actors cl f) × IsAmong a (known_actors cl f)
 edge-known cl lost f b a edge =
-    let Both : Type 0 = IsAmong b (known_actors cl f) × IsAmong a (known_actors cl f) in
-    let less : released_count cl f b a < created_count cl lost f b a + carried_count cl lost f b a =
-    ltb-true (released_count cl f b a) (created_count cl lost f b a + carried_count cl lost f b a) edge in
-    let told : ℕ → List Fact = λ o. cond (lost o) [] (delta_facts (f o)) in
-    let admitted : ℕ → List Fact = λ o. link_facts lost (f o) in
-    let from_told : 0 < created_count cl lost f b a → Both = λ l. (
-    let found = tally-some (is_created b a) (told_facts cl lost f) l in
-    let known = piece-known cl f told (λ o x. out-notice (lost o) x (f o)) found.0 found.1 in
-    let named = created-names b a found.0 found.2 in
-    (known b named.0, known a named.1)
-    ) in
-    let from_admitted : 0 < carried_count cl lost f b a → Both = λ l. (
-    let found = tally-some (is_created b a) (admitted_facts cl lost f) l in
-    let known = piece-known cl f admitted (λ o x. link-notice lost x (f o)) found.0 found.1 in
-    let named = created-names b a found.0 found.2 in
-    (known b named.0, known a named.1)
-    ) in
+    let less = ltb-true (released_count cl f b a) (created_count cl lost f b a + carried_count cl lost f b a) edge in
     let some : (0 < created_count cl lost f b a) ⊎ (0 < carried_count cl lost f b a) = grind arith in
-    elim some [ inl l ↦ from_told l | inr l ↦ from_admitted l ]
+    elim some [
+      | inl told ↦ pair-known cl f b a (λ o. cond (lost o) [] (delta_facts (f o))) (λ o x. out-notice (lost o) x (f o)) told
+      | inr admitted ↦ pair-known cl f b a (λ o. link_facts lost (f o)) (λ o x. link-notice lost x (f o)) admitted
+    ]

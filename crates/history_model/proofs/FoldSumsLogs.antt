@@ -13,8 +13,7 @@ use Rattle.history_model.specs.Streams.{facts_by, log}
 use Rattle.history_model.proofs.Basics.{same_actor-equal, tally-append, true_or_false}
 use Rattle.history_model.proofs.Sums.{told_sum}
 use Rattle.history_model.proofs.FoldSumsNotes.{told-same}
-use Rattle.history_model.proofs.FoldSumsCuts.{is_flush_of, last_flush, last_flush-end, last_flush-here, last_flush-other}
-use Rattle.history_model.proofs.FoldSumsCuts.{last_flush-within}
+use Rattle.history_model.proofs.FoldSumsCuts.{is_flush_of, last_flush, last_flush-end, last_flush-here, last_flush-other, last_flush-within}
 
 -- ---- events and logs
 

@@ -13,9 +13,8 @@ use Rattle.history_model.specs.Graph.{delta_facts, last_flags}
 use Rattle.history_model.proofs.Basics.{eqb-refl, same_actor-refl, same_actor-sym, tally-append, true_or_false}
 use Rattle.history_model.proofs.Sums.{flags_cut, flush_cut, publish_cut, told_sum}
 use Rattle.history_model.proofs.FoldSumsNotes.{told-later, told-same}
-use Rattle.history_model.proofs.FoldSumsCuts.{flags_cut-last, flush_cut-last, last_flush, last_flush-here, last_flush-later, some_flags}
+use Rattle.history_model.proofs.FoldSumsCuts.{flags_cut-last, flush-elsewhere, flush_cut-last, is_flush_on, last_flush, last_flush-here, last_flush-later, last_flush-skip, last_flush-within, some_flags}
 use Rattle.history_model.proofs.FoldSumsBulletins.{IsToldUntil, stream-value}
-use Rattle.history_model.proofs.FoldSumsCuts.{last_flush-within, last_flush-skip, flush-elsewhere, is_flush_on}
 use Rattle.history_model.proofs.FoldSumsLogs.{IsRaised, passes, told-raised}
 use Rattle.history_model.proofs.FoldSumsFlags.{entry-flags, last_flags-append, newer, newer-assoc}
 
@@ -30,7 +29,7 @@ module _ (cl : Cluster) (o : ℕ) (t : Fact → Bool) where
   told_until k h = told_sum cl (λ a. last_flush 0 length a k h) counts h
 
   -- the cuts of other nodes' actors do not matter
-  pub same-passing : (k : ℕ) (x : Note) (c d : ℕ) → ((x.by.node == o) ≡ true → c ≡ d) → (nat_lt k c && counts x) ≡ (nat_lt k d && counts x)
+  same-passing : (k : ℕ) (x : Note) (c d : ℕ) → ((x.by.node == o) ≡ true → c ≡ d) → (nat_lt k c && counts x) ≡ (nat_lt k d && counts x)
   same-passing k x c d same =
       elim (true_or_false (x.by.node == o)) [
         | inl on ↦ ap (λ w. nat_lt k w && counts x) (same on)
