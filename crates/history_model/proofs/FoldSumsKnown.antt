@@ -171,7 +171,7 @@ pair-known cl f b a pieces part l =
     let below = IsAmong-from_range piece.0 0 cl.nodes piece.1 in
     let named = created-names b a fact.0 fact.2 in
     let known : (c : Actor) → names c fact.0 ≡ true → IsAmong c (known_actors cl f) =
-      λ c t. (known-named cl f c).1 (piece.0, omega arith, fact.0, part piece.0 fact.0 piece.2, t) in
+    λ c t. (known-named cl f c).1 (piece.0, omega arith, fact.0, part piece.0 fact.0 piece.2, t) in
     (known b named.0, known a named.1)
 
 -- both ends of a positive edge are known
