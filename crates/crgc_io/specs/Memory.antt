@@ -18,7 +18,7 @@ calls_from piece failing = record { piece = piece; failing = failing; made = 0; 
 abbrev pub after_call : Bool → Calls → Calls
 after_call failed calls = record calls {
   made = raised calls.made;
-  faults = if failed then raised calls.faults else calls.faults
+  faults = if failed then raised calls.faults else calls.faults;
 }
 
 -- the bytes that reads gave, the bytes that are left, and the reads

@@ -21,10 +21,10 @@ impl Model for MemoryCalls {
     ghost Value = { Calls };
 
     ghost view = { λ c. record {
-        piece = c.piece;
-        failing = c.failing.items;
-        made = c.made;
-        faults = c.faults
+      piece = c.piece;
+      failing = c.failing.items;
+      made = c.made;
+      faults = c.faults;
     } };
 
     ghost invariant = { λ c. 0 < c.piece };

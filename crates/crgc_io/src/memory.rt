@@ -27,9 +27,9 @@ impl Model for MemorySource {
     ghost Value = { Reading };
 
     ghost view = { λ s. record {
-        given = take s.position s.bytes.items;
-        left = drop s.position s.bytes.items;
-        calls = s.calls
+      given = take s.position s.bytes.items;
+      left = drop s.position s.bytes.items;
+      calls = s.calls;
     } };
 
     ghost invariant = { λ s. s.position ≤ vec_len s.bytes };
@@ -41,7 +41,9 @@ impl MemorySource {
     pub fn new(bytes: Vec<u8>, piece: usize, failing: Vec<u32>) -> MemorySource
         requires { 0 < piece }
         ensures { result ≡ record {
-            given = []; left = bytes.items; calls = calls_from piece failing.items
+          given = [];
+          left = bytes.items;
+          calls = calls_from piece failing.items;
         } }
     {
         MemorySource {
@@ -123,7 +125,9 @@ impl MemorySink {
     ) -> Result<MemorySink, NoMemory>
         requires { 0 < piece }
         ensures { IfOk result (λ s. s ≡ record {
-            held = []; room = room; calls = calls_from piece failing.items
+          held = [];
+          room = room;
+          calls = calls_from piece failing.items;
         }) }
     {
         match Vec::with_capacity(alloc, room) {

@@ -15,9 +15,10 @@ front_of_left c =
 pub returns-clause-bytes : goal.returns-clause-bytes
 returns-clause-bytes c =
     let left = ap (λ s. s.left) (sym c.self.view_is) in
-    let same = c.deref.ensures.value in
-    (left ∙ left_after_copy _ _ _ _ (front_of_left c),
-     λ none roomy. rw (← same) (none_after_copy _ _ _ _ _ c.copy_front-count.ensures.count c.in-Ok.ensures.positive none (omega (arith, c.copy_front-count.auto.to))))
+    let same = c.deref.ensures.value in (
+      left ∙ left_after_copy _ _ _ _ (front_of_left c),
+      λ none roomy. rw (← same) (none_after_copy _ _ _ _ _ c.copy_front-count.ensures.count c.in-Ok.ensures.positive none (omega (arith, c.copy_front-count.auto.to))),
+    )
 
 pub returns-clause-record : goal.returns-clause-record
 returns-clause-record c =
