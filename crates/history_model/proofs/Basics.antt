@@ -1,13 +1,13 @@
 -- What all proofs about histories use: equality of actors, tallies, and what legality gives.
-use Rattle.std.proofs.Common.{◌≡◌, ◌<◌, ◌≤◌, ◌+◌, ◌&&◌, ◌||◌, ℕ, Bool, true, false, not, List, [], ◌∷◌, ◌++◌, length, refl, sym, ◌∙◌, ap, subst, inl, inr, arith, eqb}
+use Rattle.std.proofs.Common.{◌≡◌, ◌+◌, ◌&&◌, ◌||◌, ℕ, Bool, true, false, not, List, [], ◌∷◌, ◌++◌, refl, sym, ◌∙◌, ap, inl, inr, arith, eqb}
 use Rattle.std.proofs.lemmas.Bool.{false≢true}
 use Rattle.std.proofs.lemmas.Bool.Decides.{Decides-eqb, same_from_decides}
-use Rattle.std.specs.Prelude.{Option, Some, None, if◌then◌else◌, ◌⊎◌, cond}
+use Rattle.std.specs.Prelude.{Some, None, ◌⊎◌, cond}
 use Rattle.crgc_ids.specs.Actor.{Actor}
 use Rattle.history_model.specs.declared.events.Event.{Event}
 use Rattle.history_model.specs.Tally.{tally}
 use Rattle.history_model.specs.Cluster.{Cluster, same_actor}
-use Rattle.history_model.specs.Legal.{Check, check, checks, first_broken, refusal, IsLegal}
+use Rattle.history_model.specs.Legal.{Check, checks, first_broken, IsLegal}
 
 -- ---- tests
 

@@ -174,6 +174,8 @@ module _ (cl : Cluster) (m : ℕ) (h : List Event) (legal : IsLegal cl h) (here 
       IsAmong-filter is_here b q owner.0 owner.1))
       a (IsAmong-filter is_here a q quiescent.1 up)
 
-  -- and so are those of m
-  pub completeness : (a : Actor) → a.node ≡ m → IsQuiescent cl h a → IsAmong a (dead_at cl m h)
-  completeness a on = completeness-up a (subst (λ n. IsTrue (is_up n h)) (sym on) quiet.up)
+-- and so are those of m
+pub completeness : (cl : Cluster) (m : ℕ) (h : List Event) (a : Actor) → IsLegal cl h → IsQuietPoint cl m h → a.node ≡ m → IsQuiescent cl h a → IsAmong a (dead_at cl m h)
+completeness cl m h a legal quiet on quiescent =
+    let here = subst (λ n. n < cl.nodes) on (born-on_node cl h legal a (quiescent.2.born a quiescent.1)) in
+    completeness-up cl m h legal here quiet a (subst (λ n. IsTrue (is_up n h)) (sym on) quiet.up) quiescent

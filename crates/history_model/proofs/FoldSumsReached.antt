@@ -86,8 +86,9 @@ module _ (cl : Cluster) (lost : ℕ → Bool) (f : Fold) where
       let start = dead-candidate cl lost f reached.0 (dead-chain reached.0 reached.1 a reached.3 h) in
       false≢true (sym start.2 ∙ reached.2)
 
-  pub dead-unreached : (a : Actor) → IsAmong a (known_actors cl f) → lost a.node ≡ false → IsAmong a (dead cl lost f) ↔ ¬ IsReached cl lost f a
-  dead-unreached a known out = (
-    dead-not_reached a,
-    λ never. elim (dead-or_reached a known out) [ inl h ↦ h | inr reached ↦ absurd (never reached) ],
+  -- so the dead are the known actors outside the lost nodes that are not reached
+  pub dead-unreached : (a : Actor) → IsAmong a (dead cl lost f) ↔ (IsAmong a (known_actors cl f) × (lost a.node ≡ false) × ¬ IsReached cl lost f a)
+  dead-unreached a = (
+    λ h. (let c = dead-candidate cl lost f a h in (c.0, c.1, dead-not_reached a h)),
+    λ all. elim (dead-or_reached a all.0 all.1) [ inl h ↦ h | inr reached ↦ absurd (all.2 reached) ],
   )

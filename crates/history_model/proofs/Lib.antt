@@ -33,8 +33,8 @@ pub mod SoundnessBounds
 pub mod SoundnessStep
 pub mod SoundnessQuiet
 pub mod Soundness
-pub mod Supervision
 pub mod CompletenessTold
 pub mod CompletenessMail
 pub mod Completeness
 pub mod Stopped
+pub mod Supervision
