@@ -1,7 +1,7 @@
 -- Births in a legal history: what is born stays born, births are on nodes of the cluster, and whoever notes, is named by
 -- a fact, sends, is sent to or is carried was born before.
 use Rattle.std.proofs.Common.{◌≡◌, ◌<◌, ◌+◌, ◌&&◌, ◌||◌, ℕ, zero, suc, Bool, true, false, List, [], ◌∷◌, ◌++◌, map, refl, sym, ◌∙◌, ap, subst, inl, inr, arith, IsTrue, IsFalse, cond, drop, filter, slice_get, option_to_list}
-use Rattle.std.proofs.lemmas.Bool.{ltb-true, lt-ltb, le-ltb, cases_lt}
+use Rattle.std.proofs.lemmas.Bool.{ltb-true, lt-ltb, le-ltb, cases_lt, and_parts, or_cases, eqb-true}
 use Rattle.std.specs.Prelude.{◌==◌}
 use Rattle.crgc_ids.specs.Actor.{Actor}
 use Rattle.crgc_ids.specs.Members.{IsAmong}
@@ -13,7 +13,7 @@ use Rattle.history_model.specs.Cluster.{Cluster, same_actor, is_birth_on, births
 use Rattle.history_model.specs.Messages.{Message, sent, message_at, admitted_by, was_admitted, is_to, mail, takes, waiting}
 use Rattle.history_model.specs.Facts.{received, sent_to, created, released, Note, note_by, notes, names, message_facts}
 use Rattle.history_model.specs.Legal.{Check, born_all, IsLegal}
-use Rattle.history_model.proofs.Basics.{and_true, or_true, eqb-refl, eqb-equal, same_actor-equal, tally-append, AreKept, legal-kept}
+use Rattle.history_model.proofs.Basics.{eqb-refl, same_actor-equal, tally-append, AreKept, legal-kept}
 use Rattle.history_model.proofs.Sums.{all_sent, noted_sum}
 
 -- ---- members of lists
@@ -82,7 +82,7 @@ births-on_nodes cl (Seed m ∷ p) legal n some =
     let before = births-on_nodes cl p legal.1 n in
     let node : m < cl.nodes = ltb-true m cl.nodes kept.0 in
     let split = elim (m == n) as (λ v. (m == n) ≡ v → 0 < cond v (births n p + 1) (births n p) → n < cl.nodes) [
-      | true ↦ λ same _. subst (λ k. k < cl.nodes) (eqb-equal m n same) node
+      | true ↦ λ same _. subst (λ k. k < cl.nodes) (eqb-true m n same) node
       | false ↦ λ _ earlier. before earlier
     ] in
     split refl some
@@ -92,7 +92,7 @@ births-on_nodes cl (Spawn a ∷ p) legal n some =
     let parent : a.serial < births a.node p = ltb-true a.serial (births a.node p) kept.0 in
     let node : a.node < cl.nodes = before a.node (omega arith) in
     let split = elim (a.node == n) as (λ v. (a.node == n) ≡ v → 0 < cond v (births n p + 1) (births n p) → n < cl.nodes) [
-      | true ↦ λ same _. subst (λ k. k < cl.nodes) (eqb-equal a.node n same) node
+      | true ↦ λ same _. subst (λ k. k < cl.nodes) (eqb-true a.node n same) node
       | false ↦ λ _ earlier. before n earlier
     ] in
     split refl some
@@ -115,7 +115,7 @@ same-born h b a born same = subst (λ c. IsTrue (is_born c h)) (same_actor-equal
 
 pair-born : (h : List Event) (b c a : Actor) → IsTrue (is_born b h) → IsTrue (is_born c h) → IsTrue (same_actor b a || same_actor c a) → IsTrue (is_born a h)
 pair-born h b c a first second named =
-    elim (or_true (same_actor b a) (same_actor c a) named) [ inl same ↦ same-born h b a first same | inr same ↦ same-born h c a second same ]
+    elim (or_cases (same_actor b a) (same_actor c a) named) [ inl same ↦ same-born h b a first same | inr same ↦ same-born h c a second same ]
 
 created-born : (h : List Event) (by b a : Actor) → IsTrue (is_born by h) → IsTrue (is_born b h) → IsTrue (is_born a h) → AreBorn h (note_by by (created b a))
 created-born h by b a noter owner target = (noter, λ c named. pair-born h b a c owner target named)
@@ -210,9 +210,9 @@ sent-among s d (Send f t refs ∷ p) m among =
     let Found : Type 0 = IsAmong m (all_sent p ++ one ∷ []) × (m.from.node ≡ s) × (m.to.node ≡ d) in
     let before : IsAmong m (sent s d p) → Found = λ earlier. (let found = sent-among s d p m earlier in (IsAmong-append_left m (all_sent p) (one ∷ []) found.0, found.1, found.2)) in
     let now : IsTrue ((f.node == s) && (t.node == d)) → IsAmong m (one ∷ []) → Found = λ same here.
-    let both = and_true (f.node == s) (t.node == d) same in
+    let both = and_parts (f.node == s) (t.node == d) same in
     let is_one : m ≡ one = elim here [ inl e ↦ e | inr none ↦ absurd none ] in
-    (IsAmong-append_right m (all_sent p) (one ∷ []) here, ap (λ (k : Message). k.from.node) is_one ∙ eqb-equal f.node s both.0, ap (λ (k : Message). k.to.node) is_one ∙ eqb-equal t.node d both.1) in
+    (IsAmong-append_right m (all_sent p) (one ∷ []) here, ap (λ (k : Message). k.from.node) is_one ∙ eqb-true f.node s both.0, ap (λ (k : Message). k.to.node) is_one ∙ eqb-true t.node d both.1) in
     let split = elim ((f.node == s) && (t.node == d)) as (λ v. ((f.node == s) && (t.node == d)) ≡ v → IsAmong m (cond v (sent s d p ++ one ∷ []) (sent s d p)) → Found) [
       | true ↦ λ same either. elim (IsAmong-append_cases m (sent s d p) (one ∷ []) either) [ inl earlier ↦ before earlier | inr here ↦ now same here ]
       | false ↦ λ _ earlier. before earlier

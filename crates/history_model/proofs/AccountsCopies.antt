@@ -1,6 +1,6 @@
 -- What is on a link of a legal history, and what was admitted there, was sent on it.
 use Rattle.std.proofs.Common.{◌≡◌, ◌<◌, ◌≤◌, ◌+◌, ◌&&◌, ◌||◌, ℕ, true, false, List, [], ◌∷◌, length, refl, subst, inl, inr, arith, IsTrue, cond}
-use Rattle.std.proofs.lemmas.Bool.{false≢true, ltb-true, le-ltb, cases_lt}
+use Rattle.std.proofs.lemmas.Bool.{false≢true, ltb-true, le-ltb, cases_lt, and_parts, eqb-true}
 use Rattle.std.specs.Prelude.{◌==◌}
 use Rattle.history_model.specs.declared.events.Event.{Event}
 use Rattle.history_model.specs.declared.events.Event.TheVariants.{Admit, Repeat}
@@ -8,16 +8,16 @@ use Rattle.history_model.specs.Tally.{tally}
 use Rattle.history_model.specs.Cluster.{Cluster}
 use Rattle.history_model.specs.Messages.{sent, is_repeat, was_admitted, copies}
 use Rattle.history_model.specs.Legal.{IsLegal}
-use Rattle.history_model.proofs.Basics.{and_true, eqb-equal, legal-kept}
+use Rattle.history_model.proofs.Basics.{legal-kept}
 use Rattle.history_model.proofs.AccountsGrowth.{length-begins, sent-begins}
 
 -- a number of a link that tests as another one is that one
 pub same_number : (x y n s d k : ℕ) → ((x == s) && ((y == d) && (n == k))) ≡ true → (P : ℕ → ℕ → ℕ → Type 0) → P x y n → P s d k
 same_number x y n s d k same P h =
-    let first = and_true (x == s) ((y == d) && (n == k)) same in
-    let rest = and_true (y == d) (n == k) first.1 in
-    subst (P s d) (eqb-equal n k rest.1)
-    (subst (λ j. P s j n) (eqb-equal y d rest.0) (subst (λ i. P i y n) (eqb-equal x s first.0) h))
+    let first = and_parts (x == s) ((y == d) && (n == k)) same in
+    let rest = and_parts (y == d) (n == k) first.1 in
+    subst (P s d) (eqb-true n k rest.1)
+    (subst (λ j. P s j n) (eqb-true y d rest.0) (subst (λ i. P i y n) (eqb-true x s first.0) h))
 
 -- a link's messages do not grow fewer
 longer : (s d : ℕ) (e : Event) (p : List Event) → length (sent s d p) ≤ length (sent s d (e ∷ p))

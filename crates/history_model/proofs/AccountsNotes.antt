@@ -1,6 +1,7 @@
 -- What all notes of a history count: the messages sent to an actor, the references that it was given or sent, those that
 -- it gave up, and the messages that it took.
 use Rattle.std.proofs.Common.{◌≡◌, ◌+◌, ◌&&◌, ℕ, Bool, true, false, List, [], ◌∷◌, map, refl, sym, ◌∙◌, ap, inl, inr, arith, IsTrue, cond, if◌then◌else◌, filter, sum_by}
+use Rattle.std.proofs.Math.Bool.{and-false}
 use Rattle.std.proofs.lemmas.List.Elements.{filter-append}
 use Rattle.std.proofs.lemmas.List.Sums.{sum_by-append}
 use Rattle.crgc_ids.specs.Actor.{Actor}
@@ -11,7 +12,7 @@ use Rattle.history_model.specs.Cluster.{Cluster, same_actor, newborn}
 use Rattle.history_model.specs.Messages.{Message, is_to, takes}
 use Rattle.history_model.specs.Facts.{Fact, created, Note, notes, note_by, is_sent_to, is_created, is_released, is_received}
 use Rattle.history_model.specs.Held.{gifts, gave, is_note_of}
-use Rattle.history_model.proofs.Basics.{and-false, same_actor-equal, same_actor-sym, tally-append}
+use Rattle.history_model.proofs.Basics.{same_actor-equal, same_actor-sym, tally-append}
 use Rattle.history_model.proofs.Sums.{all_sent, noted_sum}
 use Rattle.history_model.proofs.AccountsBirths.{Each, each-notes_of_spawn}
 

@@ -1,6 +1,6 @@
 -- At a quiet point all that actors on nodes that are up sent was admitted, but for live messages; and what mail counts.
 use Rattle.std.proofs.Common.{◌≡◌, ◌≢◌, ◌<◌, ◌≤◌, ◌+◌, ℕ, zero, suc, Bool, true, false, not, List, [], ◌∷◌, length, drop, refl, sym, ◌∙◌, ap, subst, inl, inr, arith, IsTrue, IsFalse, cond, filter, sum_by, slice_get, option_to_list, take-append-drop}
-use Rattle.std.proofs.lemmas.Bool.{false≢true, false_from_ne_true, true_from_ne_false}
+use Rattle.std.proofs.lemmas.Bool.{false≢true, false_from_ne_true, true_from_ne_false, not-true}
 use Rattle.crgc_ids.specs.Actor.{Actor}
 use Rattle.crgc_ids.specs.Members.{IsAmong}
 use Rattle.history_model.specs.declared.events.Event.{Event}
@@ -11,7 +11,6 @@ use Rattle.history_model.specs.Held.{carried}
 use Rattle.history_model.specs.State.{is_up}
 use Rattle.history_model.specs.Legal.{IsLegal}
 use Rattle.history_model.specs.Quiescent.{IsOnLink, IsLive, IsQuietPoint}
-use Rattle.history_model.proofs.Basics.{not_true}
 use Rattle.history_model.proofs.Sums.{all_sent}
 use Rattle.history_model.proofs.AccountsBirths.{mail-among, message_at-among, sent-among, waiting-among}
 use Rattle.history_model.proofs.AccountsGrowth.{carried-append}
@@ -87,7 +86,7 @@ pub quiet-takes : (cl : Cluster) (m : ℕ) (h : List Event) → IsLegal cl h →
     → (a : Actor) → IsTrue (is_up a.node h) → ((x : Message) → IsLive h x → x.to ≡ a → ⊥) → takes a h ≡ sum_by (counts_other lost) (filter (is_to a) (all_sent h)) + sum_by (counts_lost lost) (mail a h)
 quiet-takes cl m h legal quiet lost senders a up none =
     let from_up : (x : Message) → IsAmong x (all_sent h) → 0 < counts_other lost x → IsTrue (is_up x.from.node h) = λ x among some.
-    senders x among (not_true (lost x.from.node) (some_chosen (not (lost x.from.node)) 1 some)) in
+    senders x among (not-true (lost x.from.node) (some_chosen (not (lost x.from.node)) 1 some)) in
     let all = quiet-mail cl m h legal quiet a up (counts_other lost) from_up (λ x live to. absurd (none x live to)) in
     let split = mail-split lost (mail a h) in
     let most = takes-mail cl h legal a in
@@ -101,7 +100,7 @@ pub quiet-carried : (cl : Cluster) (m : ℕ) (h : List Event) → IsLegal cl h �
     → (b a : Actor) → IsTrue (is_up b.node h) → ((x : Message) → IsLive h x → ¬ IsAmong a x.refs) → carried a (taken b h) ≡ sum_by (carries_other lost a) (filter (is_to b) (all_sent h)) + sum_by (carries_from lost a) (mail b h)
 quiet-carried cl m h legal quiet lost senders b a up none =
     let from_up : (x : Message) → IsAmong x (all_sent h) → 0 < carries_other lost a x → IsTrue (is_up x.from.node h) = λ x among some.
-    senders x among (not_true (lost x.from.node) (some_chosen (not (lost x.from.node)) (tally (same_actor a) x.refs) some)) in
+    senders x among (not-true (lost x.from.node) (some_chosen (not (lost x.from.node)) (tally (same_actor a) x.refs) some)) in
     let nothing : (x : Message) → IsLive h x → x.to ≡ b → carries_other lost a x ≡ 0 = λ x live _.
     none_chosen (not (lost x.from.node)) (tally (same_actor a) x.refs) (tally-absent a x.refs (none x live)) in
     let all = quiet-mail cl m h legal quiet b up (carries_other lost a) from_up nothing in

@@ -1,6 +1,6 @@
 -- The known actors of a fold, and what holds of every positive edge.
 use Rattle.std.proofs.Common.{◌≡◌, ◌<◌, ◌+◌, ◌||◌, ◌↔◌, ◌⊎◌, ℕ, Bool, true, false, cond, List, [], ◌∷◌, ◌++◌, refl, sym, ◌∙◌, subst, inl, inr, arith}
-use Rattle.std.proofs.lemmas.Bool.{false≢true, ltb-true, or_left, or_right}
+use Rattle.std.proofs.lemmas.Bool.{false≢true, ltb-true, or_left, or_right, and_parts, or_cases}
 use Rattle.std.specs.List.{flat_map}
 use Rattle.crgc_ids.specs.Actor.{Actor, is_actor_below}
 use Rattle.crgc_ids.specs.Nodes.{nodes_below}
@@ -12,7 +12,7 @@ use Rattle.history_model.specs.Facts.{Fact, received, sent_to, created, released
 use Rattle.history_model.specs.Streams.{Notice, delta, window_of, final_of}
 use Rattle.history_model.specs.Folds.{Fold}
 use Rattle.history_model.specs.Graph.{carried_count, created_count, delta_facts, has_edge, holds_actor, insert_actor, known_actors, link_facts, named_by, notice_facts, released_count, rising_actors}
-use Rattle.history_model.proofs.Basics.{and_true, or_true, same_actor-equal, same_actor-refl}
+use Rattle.history_model.proofs.Basics.{same_actor-equal, same_actor-refl}
 
 -- ---- members of lists
 
@@ -96,7 +96,7 @@ one-named a b = (
 
 two-named : (a b c : Actor) → ((same_actor b a || same_actor c a) ≡ true) ↔ IsAmong a (b ∷ c ∷ [])
 two-named a b c = (
-  λ t. elim (or_true (same_actor b a) (same_actor c a) t) [ inl l ↦ inl (sym (same_actor-equal b a l)) | inr r ↦ inr (inl (sym (same_actor-equal c a r))) ],
+  λ t. elim (or_cases (same_actor b a) (same_actor c a) t) [ inl l ↦ inl (sym (same_actor-equal b a l)) | inr r ↦ inr (inl (sym (same_actor-equal c a r))) ],
   λ h. elim h [
     | inl e ↦ or_left (same_actor b a) (same_actor c a) ((one-named a b).1 (inl e))
     | inr k ↦ or_right (same_actor b a) (same_actor c a) ((one-named a c).1 k)
@@ -159,7 +159,7 @@ out-notice false x ns h = delta-notice x ns h
 -- what tells that a reference was made names its owner and its target
 pub created-names : (b a : Actor) (x : Fact) → is_created b a x ≡ true → (names b x ≡ true) × (names a x ≡ true)
 created-names b a (created c d) t =
-    let both = and_true (same_actor c b) (same_actor d a) t in
+    let both = and_parts (same_actor c b) (same_actor d a) t in
     ((two-named b c d).1 (inl (sym (same_actor-equal c b both.0))), (two-named a c d).1 (inr (inl (sym (same_actor-equal d a both.1)))))
 created-names b a _ t = absurd (false≢true t)
 

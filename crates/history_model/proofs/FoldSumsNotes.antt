@@ -1,6 +1,6 @@
 -- Sums of told notes: how they compare with all notes, grow with the history, and depend on cuts and tests.
 use Rattle.std.proofs.Common.{◌≡◌, ◌<◌, ◌≤◌, ◌+◌, ◌&&◌, ℕ, Bool, true, false, cond, List, [], ◌∷◌, ◌++◌, length, map, refl, sym, ◌∙◌, ap, subst, inl, inr, arith}
-use Rattle.std.proofs.lemmas.Bool.{and_from, false≢true, lt-ltb, ltb-true}
+use Rattle.std.proofs.lemmas.Bool.{and_from, false≢true, lt-ltb, ltb-true, and_parts}
 use Rattle.std.specs.Prelude.{◌==◌, nat_lt}
 use Rattle.crgc_ids.specs.Actor.{Actor}
 use Rattle.crgc_ids.specs.Members.{IsAmong}
@@ -9,7 +9,7 @@ use Rattle.history_model.specs.declared.events.Event.TheVariants.{Seed, Tie, Tak
 use Rattle.history_model.specs.Tally.{tally}
 use Rattle.history_model.specs.Cluster.{Cluster, same_actor, newborn}
 use Rattle.history_model.specs.Facts.{Note, received, sent_to, created, released, is_received, is_released, note_by, notes}
-use Rattle.history_model.proofs.Basics.{and_true, same_actor-equal}
+use Rattle.history_model.proofs.Basics.{same_actor-equal}
 use Rattle.history_model.proofs.Sums.{noted_sum, told_sum}
 
 -- ---- tallies
@@ -49,7 +49,7 @@ pub told-noted : (cl : Cluster) (u : Actor → ℕ) (t : Note → Bool) (h : Lis
 told-noted cl u t [] = omega arith
 told-noted cl u t (e ∷ p) =
     let before = told-noted cl u t p in
-    let here = tally-implies (λ n. nat_lt (length p) (u n.by) && t n) t (notes cl e p) (λ x _ b. (and_true (nat_lt (length p) (u x.by)) (t x) b).1) in
+    let here = tally-implies (λ n. nat_lt (length p) (u n.by) && t n) t (notes cl e p) (λ x _ b. (and_parts (nat_lt (length p) (u x.by)) (t x) b).1) in
     omega arith
 
 pub told-grows : (cl : Cluster) (u : Actor → ℕ) (t : Note → Bool) (q p : List Event) → told_sum cl u t p ≤ told_sum cl u t (q ++ p)
@@ -88,7 +88,7 @@ told-below cl u t (e ∷ q) p below =
     let before = told-below cl u t q p below in
     let longer = length-grows q p in
     let here = tally-none (λ n. nat_lt (length (q ++ p)) (u n.by) && t n) (notes cl e (q ++ p)) (λ x m b.
-    let both = and_true (nat_lt (length (q ++ p)) (u x.by)) (t x) b in
+    let both = and_parts (nat_lt (length (q ++ p)) (u x.by)) (t x) b in
     let above = ltb-true (length (q ++ p)) (u x.by) both.0 in
     let low = below e (q ++ p) x m both.1 in
     absurd (omega arith)) in
@@ -111,7 +111,7 @@ pub told-none : (cl : Cluster) (u : Actor → ℕ) (t : Note → Bool) (h : List
 told-none cl u t [] none = refl
 told-none cl u t (e ∷ p) none =
     let before = told-none cl u t p none in
-    let here = tally-none (λ n. nat_lt (length p) (u n.by) && t n) (notes cl e p) (λ x _ b. false≢true (sym (none x) ∙ (and_true (nat_lt (length p) (u x.by)) (t x) b).1)) in
+    let here = tally-none (λ n. nat_lt (length p) (u n.by) && t n) (notes cl e p) (λ x _ b. false≢true (sym (none x) ∙ (and_parts (nat_lt (length p) (u x.by)) (t x) b).1)) in
     omega arith
 
 -- an event at or above all cuts tells nothing
@@ -165,4 +165,4 @@ noter-received cl e p a =
 pub noter-released : (cl : Cluster) (e : Event) (p : List Event) (b a : Actor) (x : Note) → IsAmong x (notes cl e p) → is_released b a x.fact ≡ true → x.by ≡ b
 noter-released cl e p b a =
     notes-kinds (λ x. is_released b a x.fact ≡ true → x.by ≡ b) (λ _ _ t. absurd (false≢true t)) (λ _ _ _ t. absurd (false≢true t))
-    (λ _ t. absurd (false≢true t)) (λ c d t. same_actor-equal c b (and_true (same_actor c b) (same_actor d a) t).0) cl e p
+    (λ _ t. absurd (false≢true t)) (λ c d t. same_actor-equal c b (and_parts (same_actor c b) (same_actor d a) t).0) cl e p

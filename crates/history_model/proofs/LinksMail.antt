@@ -1,6 +1,6 @@
 -- Where the lost nodes are settled, what a fold admits from them is the mail that they sent.
 use Rattle.std.proofs.Common.{◌≡◌, ◌≢◌, ◌≤◌, ◌<◌, ◌+◌, ◌&&◌, ◌==◌, ℕ, zero, suc, Bool, true, false, cond, if◌then◌else◌, List, [], ◌∷◌, ◌++◌, map, take, drop, slice_get, option_to_list, sum_by, refl, sym, ◌∙◌, ap, ap₂, subst, inl, inr, arith, ltb-true, ne_eqb, take-append-drop}
-use Rattle.std.proofs.lemmas.Bool.{cases_eq}
+use Rattle.std.proofs.lemmas.Bool.{cases_eq, eqb-true}
 use Rattle.std.proofs.lemmas.List.Sums.{sum_by-append}
 use Rattle.std.specs.List.{filter}
 use Rattle.crgc_ids.specs.Actor.{Actor}
@@ -18,7 +18,7 @@ use Rattle.history_model.specs.Folds.{fold_to}
 use Rattle.history_model.specs.Graph.{link_facts, admitted_facts, admitted_count, carried_count}
 use Rattle.history_model.specs.Legal.{IsLegal}
 use Rattle.history_model.specs.Settled.{AreSettled, admitted_on}
-use Rattle.history_model.proofs.Basics.{eqb-refl, eqb-equal, same_actor-equal, tally-append, legal-kept}
+use Rattle.history_model.proofs.Basics.{eqb-refl, same_actor-equal, tally-append, legal-kept}
 use Rattle.history_model.proofs.LinksSettled.{link-equal}
 use Rattle.history_model.proofs.LinksSums.{nodes-point, sum_by-filter, sum_by-none, sum_by-same, tally-flat_map, tally-sum_by}
 use Rattle.history_model.proofs.LinksWindows.{link_facts-append, told_from, windows-told}
@@ -130,7 +130,7 @@ module _ (lost : ℕ → Bool) (b : Actor) (w : Message → ℕ) (none : (m : Me
       let same : m.from.node ≡ m.to.node =
       (elim (f.node == t.node) as (λ v. f.node == t.node ≡ v → IsAmong m (cond v (one ∷ []) []) → m.from.node ≡ m.to.node) [
         | true ↦ λ e i. elim i [
-          | inl is ↦ ap (λ (x : Message). x.from.node) is ∙ eqb-equal f.node t.node e ∙ sym (ap (λ (x : Message). x.to.node) is)
+          | inl is ↦ ap (λ (x : Message). x.from.node) is ∙ eqb-true f.node t.node e ∙ sym (ap (λ (x : Message). x.to.node) is)
           | inr no_more ↦ absurd no_more
         ]
         | false ↦ λ _ i. absurd i

@@ -1,7 +1,7 @@
 -- The nodes that a fold shows as lost are settled: they have crashed, nothing is under way from them to a node outside,
 -- and all that such a node admitted from them is folded.
 use Rattle.std.proofs.Common.{◌≡◌, ◌<◌, ◌+◌, ◌&&◌, ◌||◌, ◌==◌, ℕ, Bool, true, false, not, cond, List, [], ◌∷◌, ◌++◌, length, take, slice_get, option_to_list, flat_map, refl, sym, ◌∙◌, ap, ap₂, subst, inl, inr, arith, append-nil, eq-eqb, ltb-true, ◌↔◌, ◌⊎◌, take-append-drop, length-append, drop}
-use Rattle.std.proofs.lemmas.Bool.{cases_lt, cond-false, or_left, or_right, false_from_ne_true, and_from, true≢false}
+use Rattle.std.proofs.lemmas.Bool.{cases_lt, cond-false, or_left, or_right, false_from_ne_true, and_from, true≢false, and_parts, or_cases, not-true, cases_Bool, eqb-true}
 use Rattle.std.proofs.lemmas.List.{take-append-le, take_all}
 use Rattle.std.specs.List.{list_any}
 use Rattle.crgc_ids.specs.Members.{IsAmong}
@@ -18,7 +18,7 @@ use Rattle.history_model.specs.Streams.{Notice, delta, window_of, final_of, queu
 use Rattle.history_model.specs.Folds.{Fold, fold_to, links_into, final_links, lost_of, is_lost}
 use Rattle.history_model.specs.Legal.{IsLegal}
 use Rattle.history_model.specs.Settled.{AreSettled, admitted_on}
-use Rattle.history_model.proofs.Basics.{and_true, or_true, not_true, true_or_false, eqb-refl, eqb-equal, legal-kept}
+use Rattle.history_model.proofs.Basics.{eqb-refl, legal-kept}
 use Rattle.history_model.proofs.LinksWindows.{link_facts-skip, told_from, windows-told}
 
 -- ---- finals and removals
@@ -58,13 +58,13 @@ final_put s d x xs facts true =
         | inr last ↦ inl (and_from (x == s) true (eq-eqb x s (sym (final_source s d x last))) refl)
       ],
       λ u. subst (IsAmong (s, d)) (sym joined) (elim u [
-        | inl now ↦ IsAmong-append_right (s, d) (links_into d xs) ((x, d) ∷ []) (inl (ap pair (sym (eqb-equal x s (and_true (x == s) true now).0))))
+        | inl now ↦ IsAmong-append_right (s, d) (links_into d xs) ((x, d) ∷ []) (inl (ap pair (sym (eqb-true x s (and_parts (x == s) true now).0))))
         | inr before ↦ IsAmong-append_left (s, d) (links_into d xs) ((x, d) ∷ []) before
       ]),
     )
 final_put s d x xs facts false = (
   λ m. inr m,
-  λ u. elim u [ inl now ↦ absurd (true≢false (sym (and_true (x == s) false now).1)) | inr before ↦ before ],
+  λ u. elim u [ inl now ↦ absurd (true≢false (sym (and_parts (x == s) false now).1)) | inr before ↦ before ],
 )
 
 -- a final in d's stream was given by a removal by d
@@ -93,7 +93,7 @@ closed-final cl (Publish k ∷ p) s d t =
 closed-final cl (Window y x ∷ p) s d t =
     subst (IsAmong (s, d)) (sym (links_into-skip d (stream cl d p) (window_of x (window x y p)) (y == d) refl)) (closed-final cl p s d t)
 closed-final cl (Remove y x ∷ p) s d t =
-    (final_put s d x (stream cl d p) (window x y p) (y == d)).1 (elim (or_true ((x == s) && (y == d)) (is_closed s d p) t) [
+    (final_put s d x (stream cl d p) (window x y p) (y == d)).1 (elim (or_cases ((x == s) && (y == d)) (is_closed s d p) t) [
       | inl now ↦ inl now
       | inr before ↦ inr (closed-final cl p s d before)
     ])
@@ -103,21 +103,21 @@ closed-final cl (_ ∷ p) s d t = closed-final cl p s d t
 
 -- links that test the same are equal
 pub link-equal : (x y s d : ℕ) → ((x == s) && (y == d)) ≡ true → (x ≡ s) × (y ≡ d)
-link-equal x y s d t = let both = and_true (x == s) (y == d) t in (eqb-equal x s both.0, eqb-equal y d both.1)
+link-equal x y s d t = let both = and_parts (x == s) (y == d) t in (eqb-true x s both.0, eqb-true y d both.1)
 
 -- a link that is open is not one that is closed
 not_closed : (p : List Event) (x y s d : ℕ) → not (is_closed x y p) ≡ true → is_closed s d p ≡ true → ((x == s) && (y == d)) ≡ false
 not_closed p x y s d opened closed = false_from_ne_true ((x == s) && (y == d)) (λ t.
     let same = link-equal x y s d t in
-    true≢false (sym closed ∙ sym (ap₂ (λ a b. is_closed a b p) same.0 same.1) ∙ not_true (is_closed x y p) opened))
+    true≢false (sym closed ∙ sym (ap₂ (λ a b. is_closed a b p) same.0 same.1) ∙ not-true (is_closed x y p) opened))
 
 -- a removed node has crashed
 pub closed-crashed : (cl : Cluster) (h : List Event) → IsLegal cl h → (s d : ℕ) → is_closed s d h ≡ true → is_up s h ≡ false
 closed-crashed cl [] legal s d t = absurd (true≢false (sym t))
 closed-crashed cl (Remove y x ∷ p) legal s d t =
     let kept = legal-kept cl (Remove y x) p legal in
-    elim (or_true ((x == s) && (y == d)) (is_closed s d p) t) [
-      | inl now ↦ subst (λ k. is_up k p ≡ false) (link-equal x y s d now).0 (not_true (is_up x p) kept.1.1.1.1.0)
+    elim (or_cases ((x == s) && (y == d)) (is_closed s d p) t) [
+      | inl now ↦ subst (λ k. is_up k p ≡ false) (link-equal x y s d now).0 (not-true (is_up x p) kept.1.1.1.1.0)
       | inr before ↦ closed-crashed cl p legal.1 s d before
     ]
 closed-crashed cl (Crash n ∷ p) legal s d t =
@@ -200,7 +200,7 @@ births-below cl (Seed m ∷ p) legal n some =
     let kept = legal-kept cl (Seed m) p legal in
     let before = births-below cl p legal.1 n in
     (elim (m == n) as (λ v. m == n ≡ v → 0 < cond v (births n p + 1) (births n p) → n < cl.nodes) [
-      | true ↦ λ e _. subst (λ k. k < cl.nodes) (eqb-equal m n e) (ltb-true m cl.nodes kept.0)
+      | true ↦ λ e _. subst (λ k. k < cl.nodes) (eqb-true m n e) (ltb-true m cl.nodes kept.0)
       | false ↦ λ _ l. before l
     ]) refl some
 births-below cl (Spawn a ∷ p) legal n some =
@@ -209,7 +209,7 @@ births-below cl (Spawn a ∷ p) legal n some =
     let parent = births-below cl p legal.1 a.node (omega (arith, born)) in
     let before = births-below cl p legal.1 n in
     (elim (a.node == n) as (λ v. a.node == n ≡ v → 0 < cond v (births n p + 1) (births n p) → n < cl.nodes) [
-      | true ↦ λ e _. subst (λ k. k < cl.nodes) (eqb-equal a.node n e) parent
+      | true ↦ λ e _. subst (λ k. k < cl.nodes) (eqb-true a.node n e) parent
       | false ↦ λ _ l. before l
     ]) refl some
 births-below cl (_ ∷ p) legal n some = births-below cl p legal.1 n some
@@ -276,7 +276,7 @@ final_links-from cl f s d m =
 pub lost-among : (cl : Cluster) (f : Fold) (n : ℕ) → is_lost cl f n ≡ true → IsAmong n (lost_of cl f)
 lost-among cl f n t =
     let found = list_any-true (λ x. n == x) (lost_of cl f) t in
-    subst (λ x. IsAmong x (lost_of cl f)) (sym (eqb-equal n found.0 found.2)) found.1
+    subst (λ x. IsAmong x (lost_of cl f)) (sym (eqb-true n found.0 found.2)) found.1
 
 -- and the list against the test
 pub among-lost : (cl : Cluster) (f : Fold) (n : ℕ) → IsAmong n (lost_of cl f) → is_lost cl f n ≡ true
@@ -299,7 +299,7 @@ settled cl h legal c =
           closed-crashed cl h legal n removed.0 (folded-closed cl h n removed.0 (c removed.0) final);
       closed = λ m on_link lost.
           let below = sent-below cl h legal m.from.node m.to.node (not_empty (sent m.from.node m.to.node h) on_link.0 m on_link.1) in
-          elim (true_or_false (is_lost cl f m.to.node)) [
+          elim (cases_Bool (is_lost cl f m.to.node)) [
             | inl inside ↦ inside
             | inr out ↦ (
                 let final = lost-final cl f m.from.node m.to.node lost below out in

@@ -1,6 +1,6 @@
 -- Streams, cuts and folds only grow with the history.
 use Rattle.std.proofs.Common.{◌≡◌, ◌≤◌, ◌<◌, ◌&&◌, ◌==◌, ℕ, zero, suc, Bool, true, false, cond, List, [], ◌∷◌, ◌++◌, length, take, refl, sym, ◌∙◌, ap, subst, inl, inr, arith, append_assoc, append-nil, length-append}
-use Rattle.std.proofs.lemmas.Bool.{cases_lt, or_right}
+use Rattle.std.proofs.lemmas.Bool.{cases_lt, or_right, and_parts, eqb-true}
 use Rattle.std.proofs.lemmas.List.{take-append-le}
 use Rattle.std.specs.List.{list_any}
 use Rattle.history_model.specs.declared.events.Event.{Event}
@@ -8,7 +8,7 @@ use Rattle.history_model.specs.declared.events.Event.TheVariants.{Publish, Windo
 use Rattle.history_model.specs.Cluster.{Cluster}
 use Rattle.history_model.specs.Streams.{Notice, delta, window_of, final_of, queue, window, stream}
 use Rattle.history_model.specs.Folds.{run_of, is_hand, was_handed, cut_at, fold_to, folded}
-use Rattle.history_model.proofs.Basics.{and_true, eqb-equal, eqb-refl}
+use Rattle.history_model.proofs.Basics.{eqb-refl}
 
 -- ---- streams
 
@@ -45,8 +45,8 @@ run_of-passes : (test : ℕ → Bool) (n k : ℕ) → k < run_of test n → test
 run_of-passes test zero k below = absurd (omega arith)
 run_of-passes test (suc n) k below =
     let last : (run_of test n == n) && test n ≡ true → k < suc n → test k ≡ true = λ t l.
-    let both = and_true (run_of test n == n) (test n) t in
-    let full = eqb-equal (run_of test n) n both.0 in
+    let both = and_parts (run_of test n == n) (test n) t in
+    let full = eqb-true (run_of test n) n both.0 in
     elim (cases_lt k n) [
       | inl less ↦ run_of-passes test n k (omega (arith, less, full))
       | inr most ↦ (let same : n ≡ k = omega (arith, most, l) in subst (λ x. test x ≡ true) same both.1)

@@ -1,7 +1,7 @@
 -- One event more: what is noted past the cuts gives nobody access to a member, and members past their cuts stay at rest.
 -- So every moment of the history has what `SoundnessTold` calls told, and `SoundnessQuiet` takes the last one.
 use Rattle.std.proofs.Common.{◌≡◌, ◌<◌, ◌≤◌, ℕ, Bool, true, false, not, List, [], ◌∷◌, ◌++◌, length, map, IsFalse, refl, sym, ◌∙◌, subst, inl, inr, arith, append_assoc}
-use Rattle.std.proofs.lemmas.Bool.{cases_lt, cond_both, false≢true}
+use Rattle.std.proofs.lemmas.Bool.{cases_lt, cond_both, false≢true, and_parts, not-true}
 use Rattle.std.proofs.lemmas.List.{drop_all}
 use Rattle.crgc_ids.specs.Actor.{Actor}
 use Rattle.crgc_ids.specs.Members.{IsAmong}
@@ -13,7 +13,7 @@ use Rattle.history_model.specs.Facts.{Fact, received, sent_to, created, released
 use Rattle.history_model.specs.Held.{held}
 use Rattle.history_model.specs.State.{is_busy, is_root}
 use Rattle.history_model.specs.Legal.{IsLegal}
-use Rattle.history_model.proofs.Basics.{and_true, not_true, same_actor-equal, legal-kept, legal-before}
+use Rattle.history_model.proofs.Basics.{same_actor-equal, legal-kept, legal-before}
 use Rattle.history_model.proofs.AccountsBirths.{Each, each-none, each-one, each-more, each-map, each-notes_of_spawn, born-grows, born-on_node, newborn-not_born}
 use Rattle.history_model.proofs.FoldSumsNotes.{told-next}
 use Rattle.history_model.proofs.StabilityState.{legal-send, some_waits}
@@ -33,7 +33,7 @@ sent-access a (sent_to b) t = same_actor-equal b a t
 sent-access a _ t = absurd (false≢true t)
 
 created-access : (b a : Actor) (f : Fact) → is_created b a f ≡ true → GivesAccess a f
-created-access b a (created c d) t = same_actor-equal d a (and_true (same_actor c b) (same_actor d a) t).1
+created-access b a (created c d) t = same_actor-equal d a (and_parts (same_actor c b) (same_actor d a) t).1
 created-access b a _ t = absurd (false≢true t)
 
 -- noted past a cut on a node that is not lost, it gives nobody access to a member
@@ -144,11 +144,11 @@ told-step cl lost u members q e p legal set told =
         | inr before ↦ stays-at_rest cl e p now a (told.rest a member before) (no_take cl lost u members (q ++ (e ∷ [])) p legal_p set_p told a member before)
       ];
       sendings = λ a member. told-next cl u (is_sending lost a) e p (λ x among test.
-          let both = and_true (not (lost x.by.node)) (is_sent_to a x.fact) test in
-          below a member x among (not_true (lost x.by.node) both.0) (sent-access a x.fact both.1)) (told.sendings a member);
+          let both = and_parts (not (lost x.by.node)) (is_sent_to a x.fact) test in
+          below a member x among (not-true (lost x.by.node) both.0) (sent-access a x.fact both.1)) (told.sendings a member);
       creations = λ b a member. told-next cl u (is_creation lost b a) e p (λ x among test.
-          let both = and_true (not (lost x.by.node)) (is_created b a x.fact) test in
-          below a member x among (not_true (lost x.by.node) both.0) (created-access b a x.fact both.1)) (told.creations b a member);
+          let both = and_parts (not (lost x.by.node)) (is_created b a x.fact) test in
+          below a member x among (not-true (lost x.by.node) both.0) (created-access b a x.fact both.1)) (told.creations b a member);
     }
 
 -- so it holds at every moment
