@@ -1,6 +1,6 @@
 -- What grows with the history: lists of messages go on, and counts never fall.
-use Rattle.std.proofs.Common.{◌≡◌, ◌≤◌, ◌+◌, ◌&&◌, ◌||◌, ℕ, zero, suc, Bool, true, false, not, List, [], ◌∷◌, ◌++◌, length, refl, sym, ◌∙◌, ap, subst, arith, IsTrue, cond, take, sum_by, append_assoc, append-nil, length-append, filter}
-use Rattle.std.proofs.lemmas.Bool.{false≢true}
+use Rattle.std.proofs.Common.{◌≡◌, ◌≤◌, ◌+◌, ◌&&◌, ℕ, zero, suc, Bool, true, false, not, List, [], ◌∷◌, ◌++◌, length, refl, sym, ◌∙◌, ap, subst, arith, IsTrue, cond, take, sum_by, append_assoc, append-nil, length-append, filter}
+use Rattle.std.proofs.lemmas.Bool.{false≢true, or_right}
 use Rattle.std.proofs.lemmas.List.Sums.{sum_by-append}
 use Rattle.std.specs.List.{list_any}
 use Rattle.std.specs.Prelude.{◌==◌}
@@ -12,8 +12,8 @@ use Rattle.history_model.specs.Messages.{Message, sent, mail, is_to, admitted_by
 use Rattle.history_model.specs.Facts.{Note}
 use Rattle.history_model.specs.Held.{gifts, carried, got, gave, is_drop_of}
 use Rattle.history_model.specs.State.{is_up, is_crash}
-use Rattle.history_model.proofs.Basics.{tally-append}
 use Rattle.history_model.proofs.Sums.{all_sent, noted_sum}
+use Rattle.history_model.proofs.Lists.{tally-append}
 
 -- the second list begins with the first
 abbrev pub Begins : {A : Type 0} → List A → List A → Type 0
@@ -106,15 +106,10 @@ noted-grows cl test (e ∷ q) p = omega (arith, noted-grows cl test q p)
 
 -- ---- states
 
--- a test or one that passes
-or-true : (b : Bool) → (b || true) ≡ true
-or-true true = refl
-or-true false = refl
-
 -- a test that some event passed stays passed
 pub any-stays : (test : Event → Bool) (q p : List Event) → IsTrue (list_any test p) → IsTrue (list_any test (q ++ p))
 any-stays test [] p t = t
-any-stays test (e ∷ q) p t = rw (any-stays test q p t) (or-true (test e))
+any-stays test (e ∷ q) p t = or_right (test e) (list_any test (q ++ p)) (any-stays test q p t)
 
 pub admitted-stays : (s d k : ℕ) (q p : List Event) → IsTrue (was_admitted s d k p) → IsTrue (was_admitted s d k (q ++ p))
 admitted-stays s d k q p t = any-stays (is_admit s d k) q p t

@@ -1,11 +1,10 @@
 -- What all proofs about histories use: equality of actors, tallies, and what legality gives.
-use Rattle.std.proofs.Common.{◌≡◌, ◌+◌, ◌&&◌, ◌||◌, ℕ, Bool, true, false, not, List, [], ◌∷◌, ◌++◌, refl, sym, ◌∙◌, ap, inl, inr, arith, eqb}
-use Rattle.std.proofs.lemmas.Bool.{false≢true, and_parts, eqb-true}
+use Rattle.std.proofs.Common.{◌≡◌, ℕ, true, false, List, [], ◌∷◌, ◌++◌, refl, sym, ◌∙◌, ap, eqb}
+use Rattle.std.proofs.lemmas.Bool.{and_parts, eqb-true}
 use Rattle.std.proofs.lemmas.Bool.Decides.{Decides-eqb, same_from_decides}
-use Rattle.std.specs.Prelude.{Some, None, ◌⊎◌, cond}
+use Rattle.std.specs.Prelude.{Some, None, cond}
 use Rattle.crgc_ids.specs.Actor.{Actor}
 use Rattle.history_model.specs.declared.events.Event.{Event}
-use Rattle.history_model.specs.Tally.{tally}
 use Rattle.history_model.specs.Cluster.{Cluster, same_actor}
 use Rattle.history_model.specs.Legal.{Check, checks, first_broken, IsLegal}
 
@@ -29,17 +28,6 @@ same_actor-equal a b t =
     let first : a ≡ one = ap (λ (n : ℕ). let c : Actor = record { node = n; serial = a.serial } in c) node in
     let second : one ≡ b = ap (λ (n : ℕ). let c : Actor = record { node = b.node; serial = n } in c) serial in
     first ∙ second
-
--- ---- tallies
-
-pub tally-append : {X : Type 0} (test : X → Bool) (xs ys : List X) → tally test (xs ++ ys) ≡ tally test xs + tally test ys
-tally-append test [] ys = omega arith
-tally-append test (x ∷ xs) ys =
-    let before = tally-append test xs ys in
-    elim (test x) as (λ v. cond v (tally test (xs ++ ys) + 1) (tally test (xs ++ ys)) ≡ cond v (tally test xs + 1) (tally test xs) + tally test ys) [
-      | true ↦ omega arith
-      | false ↦ before
-    ]
 
 -- ---- legality
 

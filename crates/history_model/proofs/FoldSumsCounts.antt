@@ -16,11 +16,12 @@ use Rattle.history_model.specs.Folds.{fold_to}
 use Rattle.history_model.specs.Graph.{received_count, told_count, created_count, released_count, delta_facts, told_facts}
 use Rattle.history_model.specs.Legal.{IsLegal}
 use Rattle.history_model.specs.Streams.{stream}
-use Rattle.history_model.proofs.Basics.{legal-kept, tally-append}
+use Rattle.history_model.proofs.Basics.{legal-kept}
 use Rattle.history_model.proofs.Sums.{flush_cut, publish_cut, told_cut, told_sum}
 use Rattle.history_model.proofs.FoldSumsNotes.{told-none, told-same}
 use Rattle.history_model.proofs.FoldSumsCuts.{flush_cut-below}
 use Rattle.history_model.proofs.FoldSumsStreams.{deltas-told}
+use Rattle.history_model.proofs.Lists.{tally-append}
 
 -- ---- nodes outside the cluster publish nothing
 

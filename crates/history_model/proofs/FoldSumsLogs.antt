@@ -10,10 +10,11 @@ use Rattle.history_model.specs.Tally.{tally}
 use Rattle.history_model.specs.Cluster.{Cluster, same_actor}
 use Rattle.history_model.specs.Facts.{Fact, Note, notes}
 use Rattle.history_model.specs.Streams.{facts_by, log}
-use Rattle.history_model.proofs.Basics.{same_actor-equal, tally-append}
+use Rattle.history_model.proofs.Basics.{same_actor-equal}
 use Rattle.history_model.proofs.Sums.{told_sum}
 use Rattle.history_model.proofs.FoldSumsNotes.{told-same}
 use Rattle.history_model.proofs.FoldSumsCuts.{is_flush_of, last_flush, last_flush-end, last_flush-here, last_flush-other, last_flush-within}
+use Rattle.history_model.proofs.Lists.{tally-append}
 
 -- ---- events and logs
 

@@ -10,13 +10,14 @@ use Rattle.history_model.specs.Cluster.{Cluster}
 use Rattle.history_model.specs.Facts.{Flags, Fact, flagged, Note}
 use Rattle.history_model.specs.Streams.{entry, flags_at, log, stream}
 use Rattle.history_model.specs.Graph.{delta_facts, last_flags}
-use Rattle.history_model.proofs.Basics.{eqb-refl, same_actor-refl, same_actor-sym, tally-append}
+use Rattle.history_model.proofs.Basics.{eqb-refl, same_actor-refl, same_actor-sym}
 use Rattle.history_model.proofs.Sums.{flags_cut, flush_cut, publish_cut, told_sum}
 use Rattle.history_model.proofs.FoldSumsNotes.{told-later, told-same}
 use Rattle.history_model.proofs.FoldSumsCuts.{flags_cut-last, flush-elsewhere, flush_cut-last, is_flush_on, last_flush, last_flush-here, last_flush-later, last_flush-skip, last_flush-within, some_flags}
 use Rattle.history_model.proofs.FoldSumsBulletins.{IsToldUntil, stream-value}
 use Rattle.history_model.proofs.FoldSumsLogs.{IsRaised, passes, told-raised}
 use Rattle.history_model.proofs.FoldSumsFlags.{entry-flags, last_flags-append, newer, newer-assoc}
+use Rattle.history_model.proofs.Lists.{tally-append}
 
 -- ---- notes
 

@@ -1,4 +1,5 @@
 pub mod Basics
+pub mod Lists
 pub mod Sums
 pub mod AccountsBirths
 pub mod AccountsGrowth

@@ -1,6 +1,6 @@
 -- Where the lost nodes are settled, what a fold admits from them is the mail that they sent.
 use Rattle.std.proofs.Common.{◌≡◌, ◌≢◌, ◌≤◌, ◌<◌, ◌+◌, ◌&&◌, ◌==◌, ℕ, zero, suc, Bool, true, false, cond, if◌then◌else◌, List, [], ◌∷◌, ◌++◌, map, take, drop, slice_get, option_to_list, sum_by, refl, sym, ◌∙◌, ap, ap₂, subst, inl, inr, arith, ltb-true, ne_eqb, take-append-drop}
-use Rattle.std.proofs.lemmas.Bool.{cases_eq, eqb-true}
+use Rattle.std.proofs.lemmas.Bool.{eqb-true}
 use Rattle.std.proofs.lemmas.List.Sums.{sum_by-append}
 use Rattle.std.specs.List.{filter}
 use Rattle.crgc_ids.specs.Actor.{Actor}
@@ -18,10 +18,11 @@ use Rattle.history_model.specs.Folds.{fold_to}
 use Rattle.history_model.specs.Graph.{link_facts, admitted_facts, admitted_count, carried_count}
 use Rattle.history_model.specs.Legal.{IsLegal}
 use Rattle.history_model.specs.Settled.{AreSettled, admitted_on}
-use Rattle.history_model.proofs.Basics.{eqb-refl, same_actor-equal, tally-append, legal-kept}
+use Rattle.history_model.proofs.Basics.{eqb-refl, same_actor-equal, legal-kept, same_actor-sym}
 use Rattle.history_model.proofs.LinksSettled.{link-equal}
 use Rattle.history_model.proofs.LinksSums.{nodes-point, sum_by-filter, sum_by-none, sum_by-same, tally-flat_map, tally-sum_by}
 use Rattle.history_model.proofs.LinksWindows.{link_facts-append, told_from, windows-told}
+use Rattle.history_model.proofs.Lists.{tally-append}
 
 -- ---- where messages come from, and go to
 
@@ -321,17 +322,6 @@ sent_weight a m =
       | true ↦ omega (arith, nothing)
       | false ↦ nothing
     ]
-
--- the test for equal numbers is symmetric
-eqb-sym : (m n : ℕ) → m == n ≡ n == m
-eqb-sym m n = elim (cases_eq m n) [
-  | inl e ↦ ap₂ ◌==◌ e (sym e)
-  | inr differ ↦ ne_eqb m n differ ∙ sym (ne_eqb n m (λ e. differ (sym e)))
-]
-
--- so is that for the same actor
-same_actor-sym : (a b : Actor) → same_actor a b ≡ same_actor b a
-same_actor-sym a b = ap₂ ◌&&◌ (eqb-sym a.node b.node) (eqb-sym a.serial b.serial)
 
 -- the references to a among those that are made for t count, where t is b
 created_weight : (b a t : Actor) (refs : List Actor) (v : Bool) → same_actor t b ≡ v

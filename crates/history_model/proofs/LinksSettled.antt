@@ -1,6 +1,6 @@
 -- The nodes that a fold shows as lost are settled: they have crashed, nothing is under way from them to a node outside,
 -- and all that such a node admitted from them is folded.
-use Rattle.std.proofs.Common.{◌≡◌, ◌<◌, ◌+◌, ◌&&◌, ◌||◌, ◌==◌, ℕ, Bool, true, false, not, cond, List, [], ◌∷◌, ◌++◌, length, take, slice_get, option_to_list, flat_map, refl, sym, ◌∙◌, ap, ap₂, subst, inl, inr, arith, append-nil, eq-eqb, ltb-true, ◌↔◌, ◌⊎◌, take-append-drop, length-append, drop}
+use Rattle.std.proofs.Common.{◌≡◌, ◌<◌, ◌&&◌, ◌||◌, ◌==◌, ℕ, Bool, true, false, not, cond, List, [], ◌∷◌, ◌++◌, length, take, slice_get, option_to_list, flat_map, refl, sym, ◌∙◌, ap, ap₂, subst, inl, inr, arith, append-nil, eq-eqb, ltb-true, ◌↔◌, ◌⊎◌, take-append-drop, length-append, drop}
 use Rattle.std.proofs.lemmas.Bool.{cases_lt, cond-false, or_left, or_right, false_from_ne_true, and_from, true≢false, and_parts, or_cases, not-true, cases_Bool, eqb-true}
 use Rattle.std.proofs.lemmas.List.{take-append-le, take_all}
 use Rattle.std.specs.List.{list_any}
@@ -9,7 +9,7 @@ use Rattle.crgc_ids.specs.Nodes.{nodes_below}
 use Rattle.crgc_ids.proofs.LostNodesLaws.{lost_nodes-lost}
 use Rattle.crgc_ids.proofs.MembersLaws.{IsAmong-append_cases, IsAmong-append_left, IsAmong-append_right, IsAmong-range, IsAmong-from_range, list_any-member, list_any-true}
 use Rattle.history_model.specs.declared.events.Event.{Event}
-use Rattle.history_model.specs.declared.events.Event.TheVariants.{Seed, Spawn, Publish, Send, Window, Admit, Crash, Remove}
+use Rattle.history_model.specs.declared.events.Event.TheVariants.{Publish, Send, Window, Admit, Crash, Remove}
 use Rattle.history_model.specs.Cluster.{Cluster, births}
 use Rattle.history_model.specs.Messages.{Message, admitted_by, sent, is_closed}
 use Rattle.history_model.specs.Facts.{Fact, message_facts}
@@ -20,6 +20,8 @@ use Rattle.history_model.specs.Legal.{IsLegal}
 use Rattle.history_model.specs.Settled.{AreSettled, admitted_on}
 use Rattle.history_model.proofs.Basics.{eqb-refl, legal-kept}
 use Rattle.history_model.proofs.LinksWindows.{link_facts-skip, told_from, windows-told}
+use Rattle.history_model.proofs.AccountsBirths.{births-on_nodes}
+use Rattle.history_model.proofs.Lists.{IsAmong-flat_map, IsAmong-from_flat_map}
 
 -- ---- finals and removals
 
@@ -193,34 +195,13 @@ final-told cl h legal s d n m =
 
 -- ---- nodes of messages
 
--- actors are born on nodes of the cluster
-pub births-below : (cl : Cluster) (h : List Event) → IsLegal cl h → (n : ℕ) → 0 < births n h → n < cl.nodes
-births-below cl [] legal n some = absurd (omega arith)
-births-below cl (Seed m ∷ p) legal n some =
-    let kept = legal-kept cl (Seed m) p legal in
-    let before = births-below cl p legal.1 n in
-    (elim (m == n) as (λ v. m == n ≡ v → 0 < cond v (births n p + 1) (births n p) → n < cl.nodes) [
-      | true ↦ λ e _. subst (λ k. k < cl.nodes) (eqb-true m n e) (ltb-true m cl.nodes kept.0)
-      | false ↦ λ _ l. before l
-    ]) refl some
-births-below cl (Spawn a ∷ p) legal n some =
-    let kept = legal-kept cl (Spawn a) p legal in
-    let born : a.serial < births a.node p = ltb-true a.serial (births a.node p) kept.0 in
-    let parent = births-below cl p legal.1 a.node (omega (arith, born)) in
-    let before = births-below cl p legal.1 n in
-    (elim (a.node == n) as (λ v. a.node == n ≡ v → 0 < cond v (births n p + 1) (births n p) → n < cl.nodes) [
-      | true ↦ λ e _. subst (λ k. k < cl.nodes) (eqb-true a.node n e) parent
-      | false ↦ λ _ l. before l
-    ]) refl some
-births-below cl (_ ∷ p) legal n some = births-below cl p legal.1 n some
-
 -- messages are sent to nodes of the cluster
 pub sent-below : (cl : Cluster) (h : List Event) → IsLegal cl h → (s d : ℕ) → 0 < length (sent s d h) → d < cl.nodes
 sent-below cl [] legal s d some = absurd (omega arith)
 sent-below cl (Send f t refs ∷ p) legal s d some =
     let kept = legal-kept cl (Send f t refs) p legal in
     let born : t.serial < births t.node p = ltb-true t.serial (births t.node p) kept.1.0 in
-    let recipient = births-below cl p legal.1 t.node (omega (arith, born)) in
+    let recipient = births-on_nodes cl p legal.1 t.node (omega (arith, born)) in
     let before = sent-below cl p legal.1 s d in
     let longer : List Message = sent s d p ++ record { from = f; to = t; refs = refs } ∷ [] in
     (elim ((f.node == s) && (t.node == d)) as (λ v. ((f.node == s) && (t.node == d)) ≡ v → 0 < length (cond v longer (sent s d p)) → d < cl.nodes) [
@@ -235,21 +216,6 @@ not_empty [] k m e = absurd (cc)
 not_empty (x ∷ xs) k m e = omega arith
 
 -- ---- the lost nodes
-
-module _ {A B : Type 0} (f : A → List B) where
-  -- the members of joined lists are the members of one of them
-  IsAmong-flat_map : (y : B) (x : A) (xs : List A) → IsAmong x xs → IsAmong y (f x) → IsAmong y (flat_map f xs)
-  IsAmong-flat_map y x [] m k = absurd m
-  IsAmong-flat_map y x (z ∷ xs) (inl e) k = IsAmong-append_left y (f z) (flat_map f xs) (subst (λ w. IsAmong y (f w)) e k)
-  IsAmong-flat_map y x (z ∷ xs) (inr m) k = IsAmong-append_right y (f z) (flat_map f xs) (IsAmong-flat_map y x xs m k)
-
-  IsAmong-from_flat_map : (y : B) (xs : List A) → IsAmong y (flat_map f xs) → (x : A) × IsAmong x xs × IsAmong y (f x)
-  IsAmong-from_flat_map y [] m = absurd m
-  IsAmong-from_flat_map y (z ∷ xs) m =
-      elim (IsAmong-append_cases y (f z) (flat_map f xs) m) [
-        | inl k ↦ (z, inl refl, k)
-        | inr k ↦ (let later = IsAmong-from_flat_map y xs k in (later.0, inr later.1, later.2))
-      ]
 
 -- the links of d's finals lead to d
 links_into-end : (d : ℕ) (xs : List Notice) (l : ℕ × ℕ) → IsAmong l (links_into d xs) → l.1 ≡ d

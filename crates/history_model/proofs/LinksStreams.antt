@@ -1,14 +1,14 @@
 -- Streams, cuts and folds only grow with the history.
 use Rattle.std.proofs.Common.{◌≡◌, ◌≤◌, ◌<◌, ◌&&◌, ◌==◌, ℕ, zero, suc, Bool, true, false, cond, List, [], ◌∷◌, ◌++◌, length, take, refl, sym, ◌∙◌, ap, subst, inl, inr, arith, append_assoc, append-nil, length-append}
-use Rattle.std.proofs.lemmas.Bool.{cases_lt, or_right, and_parts, eqb-true}
+use Rattle.std.proofs.lemmas.Bool.{cases_lt, and_parts, eqb-true}
 use Rattle.std.proofs.lemmas.List.{take-append-le}
-use Rattle.std.specs.List.{list_any}
 use Rattle.history_model.specs.declared.events.Event.{Event}
 use Rattle.history_model.specs.declared.events.Event.TheVariants.{Publish, Window, Remove}
 use Rattle.history_model.specs.Cluster.{Cluster}
 use Rattle.history_model.specs.Streams.{Notice, delta, window_of, final_of, queue, window, stream}
 use Rattle.history_model.specs.Folds.{run_of, is_hand, was_handed, cut_at, fold_to, folded}
 use Rattle.history_model.proofs.Basics.{eqb-refl}
+use Rattle.history_model.proofs.AccountsGrowth.{any-stays}
 
 -- ---- streams
 
@@ -74,11 +74,6 @@ run_of-longest test (suc n) j within pass =
 
 -- ---- cuts
 
--- what happened stays so
-pub any-later : (test : Event → Bool) (q h : List Event) → list_any test h ≡ true → list_any test (q ++ h) ≡ true
-any-later test [] h t = t
-any-later test (e ∷ q) h t = or_right (test e) (list_any test (q ++ h)) (any-later test q h t)
-
 -- no more is folded than there is
 pub cut-bounded : (cl : Cluster) (m : ℕ) (h : List Event) (o : ℕ) → cut_at cl m h o ≤ length (stream cl o h)
 cut-bounded cl m h o = run_of-bounded (λ k. was_handed m o k h) (length (stream cl o h))
@@ -89,7 +84,7 @@ cut-grows cl m q h o =
     let bound = cut-bounded cl m h o in
     let longer = stream-longer cl o q h in
     run_of-longest (λ k. was_handed m o k (q ++ h)) (length (stream cl o (q ++ h))) (cut_at cl m h o) (omega (arith, bound, longer))
-    (λ k l. any-later (is_hand m o k) q h (run_of-passes (λ j. was_handed m o j h) (length (stream cl o h)) k l))
+    (λ k l. any-stays (is_hand m o k) q h (run_of-passes (λ j. was_handed m o j h) (length (stream cl o h)) k l))
 
 -- ---- folds
 

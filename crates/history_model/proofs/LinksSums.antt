@@ -7,7 +7,7 @@ use Rattle.crgc_ids.specs.Nodes.{nodes_below}
 use Rattle.crgc_ids.specs.Members.{IsAmong}
 use Rattle.crgc_ids.proofs.MembersLaws.{IsAmong-from_range}
 use Rattle.history_model.specs.Tally.{tally}
-use Rattle.history_model.proofs.Basics.{tally-append}
+use Rattle.history_model.proofs.Lists.{tally-append}
 
 module _ {X : Type 0} where
   -- sums of what is equal at each member are equal

@@ -14,11 +14,12 @@ use Rattle.history_model.specs.Held.{held}
 use Rattle.history_model.specs.State.{is_busy, is_root}
 use Rattle.history_model.specs.Legal.{IsLegal}
 use Rattle.history_model.proofs.Basics.{same_actor-equal, legal-kept, legal-before}
-use Rattle.history_model.proofs.AccountsBirths.{Each, each-none, each-one, each-more, each-map, each-notes_of_spawn, born-grows, born-on_node, newborn-not_born}
+use Rattle.history_model.proofs.AccountsBirths.{each-notes_of_spawn, born-grows, born-on_node, newborn-not_born}
 use Rattle.history_model.proofs.FoldSumsNotes.{told-next}
 use Rattle.history_model.proofs.StabilityState.{legal-send, some_waits}
 use Rattle.history_model.proofs.SoundnessTold.{is_sending, is_creation, IsAtRest, IsToldSet, AreTold}
 use Rattle.history_model.proofs.SoundnessBounds.{no_take, no_hold}
+use Rattle.history_model.proofs.Lists.{Each, each-none, each-more, each-one, each-map}
 
 -- ---- access
 

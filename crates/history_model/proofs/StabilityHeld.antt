@@ -17,9 +17,8 @@ use Rattle.history_model.specs.Quiescent.{IsQuietSet}
 use Rattle.history_model.proofs.Basics.{legal-kept, same_actor-equal}
 use Rattle.history_model.proofs.AccountsBirths.{newborn-not_born}
 use Rattle.history_model.proofs.AccountsTaken.{takes-mail}
-use Rattle.history_model.proofs.FoldSumsNotes.{tally-none}
-use Rattle.history_model.proofs.StabilityMessages.{tally-more}
 use Rattle.history_model.proofs.StabilityState.{some_waits, take-live}
+use Rattle.history_model.proofs.Lists.{tally-more, tally-none}
 
 -- ---- gifts
 
@@ -63,7 +62,7 @@ gifts-next cl _ p q legal quiet b a member = refl
 -- an actor that is not among the references is not counted there
 pub tally-absent : (a : Actor) (xs : List Actor) → ¬ IsAmong a xs → tally (same_actor a) xs ≡ 0
 tally-absent a xs none =
-    tally-none (same_actor a) xs (λ x among same. none (subst (λ y. IsAmong y xs) (sym (same_actor-equal a x same)) among))
+    tally-none (same_actor a) xs (λ x among. false_from_ne_true (same_actor a x) (λ same. none (subst (λ y. IsAmong y xs) (sym (same_actor-equal a x same)) among)))
 
 -- the next message that is taken is the first that waits
 carried-take_suc : (a : Actor) (n : ℕ) (xs : List Message) (m : Message) (ms : List Message) → drop n xs ≡ m ∷ ms

@@ -13,11 +13,12 @@ use Rattle.history_model.specs.Cluster.{Cluster, same_actor}
 use Rattle.history_model.specs.Messages.{Message, sent, message_at, is_admit, is_lose, is_repeat, is_removal, was_admitted, admitted_by, is_to, mail, takes, waiting, copies, is_closed}
 use Rattle.history_model.specs.Legal.{IsLegal}
 use Rattle.history_model.specs.Quiescent.{IsOnLink, IsLive}
-use Rattle.history_model.proofs.Basics.{legal-kept, tally-append}
+use Rattle.history_model.proofs.Basics.{legal-kept}
 use Rattle.history_model.proofs.AccountsBirths.{message_at-among, sent-among}
 use Rattle.history_model.proofs.AccountsCopies.{same_number}
 use Rattle.history_model.proofs.AccountsGrowth.{up-before}
 use Rattle.history_model.proofs.AccountsTaken.{takes-mail}
+use Rattle.history_model.proofs.Lists.{tally-more}
 
 -- the message is the one that the event sends
 abbrev pub IsSent : Event → Message → Type 0
@@ -90,10 +91,6 @@ admitted-source cl (Send f t refs) p legal m among =
     (λ _ one. elim one [ inl e ↦ inr e | inr none ↦ absurd none ]) (λ _ none. absurd none) among
 admitted-source cl (Admit s d k) p legal m among = inl (admitted-on_link cl s d k p legal m among)
 admitted-source cl _ p legal m among = absurd among
-
--- a count does not fall
-pub tally-more : {X : Type 0} (test : X → Bool) (x : X) (xs : List X) → tally test xs ≤ tally test (x ∷ xs)
-tally-more test x xs = omega (arith, tally-append test (x ∷ []) xs)
 
 -- a place of a list with one more item at its end is a place of the list, or has that item
 slice_get-push : {A : Type 0} (xs : List A) (x : A) (k : ℕ)

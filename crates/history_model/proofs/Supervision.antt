@@ -16,11 +16,12 @@ use Rattle.history_model.specs.Graph.{holds_actor}
 use Rattle.history_model.specs.Sweeps.{dead_at, is_swept, is_stopped}
 use Rattle.history_model.specs.Legal.{is_parent, gives_up_parent, IsLegal}
 use Rattle.history_model.specs.Quiescent.{IsQuietSet}
-use Rattle.history_model.proofs.Basics.{same_actor-refl, same_actor-equal, tally-append, legal-kept}
+use Rattle.history_model.proofs.Basics.{same_actor-refl, same_actor-equal, legal-kept}
 use Rattle.history_model.proofs.AccountsGrowth.{got-grows}
 use Rattle.history_model.proofs.AccountsTaken.{gave-got}
 use Rattle.history_model.proofs.FoldSumsKnown.{holds-among}
 use Rattle.history_model.proofs.Stopped.{dead_at-quiet, stopped-quiescent}
+use Rattle.history_model.proofs.Lists.{tally-append}
 
 -- a child notes a reference to its parent when it is born
 spawn-gives : (cl : Cluster) (s : Actor) (p : List Event) → cl.version ≡ 2 → 0 < tally (is_note_of (newborn s.node p) s) (notes cl (Spawn s) p)
