@@ -12,7 +12,7 @@ use Rattle.history_model.specs.State.{is_up}
 use Rattle.history_model.specs.Legal.{IsLegal}
 use Rattle.history_model.specs.Quiescent.{IsOnLink, IsLive, IsQuietPoint}
 use Rattle.history_model.proofs.Sums.{all_sent}
-use Rattle.history_model.proofs.AccountsBirths.{mail-among, message_at-among, sent-among, waiting-among}
+use Rattle.history_model.proofs.AccountsBirths.{message_at-among, sent-among}
 use Rattle.history_model.proofs.AccountsGrowth.{carried-append}
 use Rattle.history_model.proofs.AccountsMail.{mail-all}
 use Rattle.history_model.proofs.AccountsNotes.{carries_from}
@@ -21,6 +21,7 @@ use Rattle.history_model.proofs.LinksSettled.{closed-crashed}
 use Rattle.history_model.proofs.SoundnessBounds.{carried-split, carries_other, counts_other, mail-split}
 use Rattle.history_model.proofs.SoundnessTold.{counts_lost}
 use Rattle.history_model.proofs.StabilityHeld.{tally-absent}
+use Rattle.history_model.proofs.States.{waiting-live}
 
 -- ---- what lists count
 
@@ -71,14 +72,6 @@ some_chosen false n some = absurd (omega arith)
 none_chosen : (v : Bool) (n : ℕ) → n ≡ 0 → cond v n 0 ≡ 0
 none_chosen true n e = e
 none_chosen false n e = refl
-
--- what waits for an actor on a node that is up is live
-waiting-live : (h : List Event) (b : Actor) → IsTrue (is_up b.node h) → (x : Message) → IsAmong x (waiting b h) → IsLive h x × (x.to ≡ b)
-waiting-live h b up x waits =
-    let to = (mail-among b h x (waiting-among b h x waits)).1 in
-    let Waits : Actor → Type 0 = λ a. IsTrue (is_up a.node h) × IsAmong x (waiting a h) in
-    let there = subst Waits (sym to) (up, waits) in
-    ((there.0, inl there.1), to)
 
 -- where no message for a is live, a took as many as nodes that are up sent to it and as it admitted from others
 pub quiet-takes : (cl : Cluster) (m : ℕ) (h : List Event) → IsLegal cl h → IsQuietPoint cl m h → (lost : ℕ → Bool)

@@ -2,6 +2,7 @@ pub mod Basics
 pub mod Lists
 pub mod Sums
 pub mod AccountsBirths
+pub mod States
 pub mod AccountsGrowth
 pub mod AccountsNotes
 pub mod AccountsCopies
@@ -24,7 +25,6 @@ pub mod LinksSettled
 pub mod LinksSums
 pub mod LinksMail
 pub mod LinksLost
-pub mod StabilityState
 pub mod StabilityMessages
 pub mod StabilityHeld
 pub mod Stability

@@ -26,8 +26,9 @@ use Rattle.history_model.proofs.FoldSumsDead.{dead-member, dead-closed}
 use Rattle.history_model.proofs.FoldSumsStreams.{own-flags}
 use Rattle.history_model.proofs.LinksMail.{admitted-mail, carried-mail}
 use Rattle.history_model.proofs.LinksSums.{tally-sum_by}
-use Rattle.history_model.proofs.SoundnessTold.{is_creation, is_receipt, is_release, is_sending, counts_lost, IsAtRest}
+use Rattle.history_model.proofs.SoundnessTold.{is_creation, is_receipt, is_release, is_sending, counts_lost}
 use Rattle.history_model.proofs.SoundnessQuiet.{told-quiet}
+use Rattle.history_model.proofs.States.{IsAtRest}
 
 -- tails of one list that are equally long are equal
 equal-tails : {A : Type 0} (q p r s : List A) → q ++ p ≡ r ++ s → length p ≡ length s → p ≡ s
