@@ -1,5 +1,5 @@
 -- At a quiet point all that actors on nodes that are up sent was admitted, but for live messages; and what mail counts.
-use Rattle.std.proofs.Common.{◌≡◌, ◌≢◌, ◌<◌, ◌≤◌, ◌+◌, ℕ, zero, suc, Bool, true, false, not, List, [], ◌∷◌, length, drop, refl, sym, ◌∙◌, ap, subst, inl, inr, arith, IsTrue, IsFalse, cond, filter, sum_by, slice_get, option_to_list, take-append-drop}
+use Rattle.std.proofs.Common.{◌≡◌, ◌≢◌, ◌<◌, ◌≤◌, ◌+◌, ℕ, zero, suc, Bool, true, false, not, List, [], ◌∷◌, length, drop, refl, sym, ◌∙◌, ap, subst, inl, inr, arith, IsTrue, IsFalse, cond, filter, sum_by, take-append-drop}
 use Rattle.std.proofs.lemmas.Bool.{false≢true, false_from_ne_true, true_from_ne_false, not-true}
 use Rattle.crgc_ids.specs.Actor.{Actor}
 use Rattle.crgc_ids.specs.Members.{IsAmong}
@@ -22,13 +22,10 @@ use Rattle.history_model.proofs.SoundnessBounds.{carried-split, carries_other, c
 use Rattle.history_model.proofs.SoundnessTold.{counts_lost}
 use Rattle.history_model.proofs.StabilityHeld.{tally-absent}
 use Rattle.history_model.proofs.States.{waiting-live}
+use Rattle.history_model.proofs.Lists.{place-within}
+use Rattle.history_model.proofs.LinksMail.{cond_none}
 
 -- ---- what lists count
-
-place-within : {A : Type 0} (xs : List A) (k : ℕ) (x : A) → option_to_list (slice_get xs k) ≡ x ∷ [] → k < length xs
-place-within [] k x e = absurd (cc)
-place-within (y ∷ ys) zero x e = omega arith
-place-within (y ∷ ys) (suc k) x e = let later = place-within ys k x e in omega arith
 
 drop-all : {A : Type 0} (n : ℕ) (xs : List A) → ((x : A) → ¬ IsAmong x (drop n xs)) → length xs ≤ n
 drop-all n [] none = omega arith
@@ -69,10 +66,6 @@ some_chosen : (v : Bool) (n : ℕ) → 0 < cond v n 0 → v ≡ true
 some_chosen true n some = refl
 some_chosen false n some = absurd (omega arith)
 
-none_chosen : (v : Bool) (n : ℕ) → n ≡ 0 → cond v n 0 ≡ 0
-none_chosen true n e = e
-none_chosen false n e = refl
-
 -- where no message for a is live, a took as many as nodes that are up sent to it and as it admitted from others
 pub quiet-takes : (cl : Cluster) (m : ℕ) (h : List Event) → IsLegal cl h → IsQuietPoint cl m h → (lost : ℕ → Bool)
     → ((x : Message) → IsAmong x (all_sent h) → lost x.from.node ≡ false → IsTrue (is_up x.from.node h))
@@ -95,7 +88,7 @@ quiet-carried cl m h legal quiet lost senders b a up none =
     let from_up : (x : Message) → IsAmong x (all_sent h) → 0 < carries_other lost a x → IsTrue (is_up x.from.node h) = λ x among some.
     senders x among (not-true (lost x.from.node) (some_chosen (not (lost x.from.node)) (tally (same_actor a) x.refs) some)) in
     let nothing : (x : Message) → IsLive h x → x.to ≡ b → carries_other lost a x ≡ 0 = λ x live _.
-    none_chosen (not (lost x.from.node)) (tally (same_actor a) x.refs) (tally-absent a x.refs (none x live)) in
+    cond_none (not (lost x.from.node)) (tally (same_actor a) x.refs) (tally-absent a x.refs (none x live)) in
     let all = quiet-mail cl m h legal quiet b up (carries_other lost a) from_up nothing in
     let split = carried-split lost a (mail b h) in
     let parts = ap (carried a) (sym (take-append-drop (takes b h) (mail b h))) ∙ carried-append a (taken b h) (waiting b h) in

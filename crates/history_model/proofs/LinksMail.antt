@@ -102,7 +102,7 @@ abbrev pub from_lost : (ℕ → Bool) → (Message → ℕ) → ℕ → List Eve
 from_lost lost w d h s = cond (lost s) (sum_by w (admitted_on s d h)) 0
 
 -- what counts nothing counts nothing from a lost node
-cond_none : (v : Bool) (n : ℕ) → n ≡ 0 → cond v n 0 ≡ 0
+pub cond_none : (v : Bool) (n : ℕ) → n ≡ 0 → cond v n 0 ≡ 0
 cond_none true n none = none
 cond_none false n none = refl
 

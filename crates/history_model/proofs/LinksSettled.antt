@@ -1,6 +1,6 @@
 -- The nodes that a fold shows as lost are settled: they have crashed, nothing is under way from them to a node outside,
 -- and all that such a node admitted from them is folded.
-use Rattle.std.proofs.Common.{◌≡◌, ◌<◌, ◌&&◌, ◌||◌, ◌==◌, ℕ, Bool, true, false, not, cond, List, [], ◌∷◌, ◌++◌, length, take, slice_get, option_to_list, flat_map, refl, sym, ◌∙◌, ap, ap₂, subst, inl, inr, arith, append-nil, eq-eqb, ltb-true, ◌↔◌, ◌⊎◌, take-append-drop, length-append, drop}
+use Rattle.std.proofs.Common.{◌≡◌, ◌<◌, ◌&&◌, ◌||◌, ◌==◌, ℕ, Bool, true, false, not, cond, List, [], ◌∷◌, ◌++◌, length, take, flat_map, refl, sym, ◌∙◌, ap, ap₂, subst, inl, inr, arith, append-nil, eq-eqb, ltb-true, ◌↔◌, ◌⊎◌, take-append-drop, length-append, drop}
 use Rattle.std.proofs.lemmas.Bool.{cases_lt, cond-false, or_left, or_right, false_from_ne_true, and_from, true≢false, and_parts, or_cases, not-true, cases_Bool, eqb-true}
 use Rattle.std.proofs.lemmas.List.{take-append-le, take_all}
 use Rattle.std.specs.List.{list_any}
@@ -21,7 +21,7 @@ use Rattle.history_model.specs.Settled.{AreSettled, admitted_on}
 use Rattle.history_model.proofs.Basics.{eqb-refl, legal-kept}
 use Rattle.history_model.proofs.LinksWindows.{link_facts-skip, told_from, windows-told}
 use Rattle.history_model.proofs.AccountsBirths.{births-on_nodes}
-use Rattle.history_model.proofs.Lists.{IsAmong-flat_map, IsAmong-from_flat_map}
+use Rattle.history_model.proofs.Lists.{IsAmong-flat_map, IsAmong-from_flat_map, place-within}
 
 -- ---- finals and removals
 
@@ -210,11 +210,6 @@ sent-below cl (Send f t refs ∷ p) legal s d some =
     ]) refl some
 sent-below cl (_ ∷ p) legal s d some = sent-below cl p legal.1 s d some
 
--- a list that has a member at k is not empty
-not_empty : (xs : List Message) (k : ℕ) (m : Message) → option_to_list (slice_get xs k) ≡ m ∷ [] → 0 < length xs
-not_empty [] k m e = absurd (cc)
-not_empty (x ∷ xs) k m e = omega arith
-
 -- ---- the lost nodes
 
 -- the links of d's finals lead to d
@@ -264,7 +259,7 @@ settled cl h legal c =
           let final = (final_links-from cl f n removed.0 removed.1).1 in
           closed-crashed cl h legal n removed.0 (folded-closed cl h n removed.0 (c removed.0) final);
       closed = λ m on_link lost.
-          let below = sent-below cl h legal m.from.node m.to.node (not_empty (sent m.from.node m.to.node h) on_link.0 m on_link.1) in
+          let below = sent-below cl h legal m.from.node m.to.node (omega (arith, place-within (sent m.from.node m.to.node h) on_link.0 m on_link.1)) in
           elim (cases_Bool (is_lost cl f m.to.node)) [
             | inl inside ↦ inside
             | inr out ↦ (

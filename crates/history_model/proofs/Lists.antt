@@ -1,5 +1,5 @@
 -- What several steps use about lists: what is true of all members, members of joined lists, and tallies.
-use Rattle.std.proofs.Common.{◌≡◌, ◌<◌, ◌≤◌, ◌+◌, ℕ, zero, suc, Bool, true, false, cond, List, [], ◌∷◌, ◌++◌, map, drop, slice_get, option_to_list, flat_map, refl, sym, subst, inl, inr, arith}
+use Rattle.std.proofs.Common.{◌≡◌, ◌<◌, ◌≤◌, ◌+◌, ℕ, zero, suc, Bool, true, false, cond, List, [], ◌∷◌, ◌++◌, map, drop, slice_get, option_to_list, flat_map, refl, sym, subst, inl, inr, arith, length}
 use Rattle.std.proofs.lemmas.Bool.{false≢true}
 use Rattle.crgc_ids.specs.Members.{IsAmong}
 use Rattle.crgc_ids.proofs.MembersLaws.{IsAmong-append_cases, IsAmong-append_left, IsAmong-append_right}
@@ -36,6 +36,12 @@ module _ {A : Type 0} where
   among-place zero x (y ∷ ys) (inl e) = inl e
   among-place zero x (y ∷ ys) (inr none) = absurd none
   among-place (suc k) x (y ∷ ys) among = inr (among-place k x ys among)
+
+-- a place where an item stands is one of the list
+pub place-within : {A : Type 0} (xs : List A) (k : ℕ) (x : A) → option_to_list (slice_get xs k) ≡ x ∷ [] → k < length xs
+place-within [] k x e = absurd (cc)
+place-within (y ∷ ys) zero x e = omega arith
+place-within (y ∷ ys) (suc k) x e = let later = place-within ys k x e in omega arith
 
 -- what is true of the images of all members
 pub each-map : {A B : Type 0} (P : B → Type 0) (f : A → B) (xs : List A) → Each (λ x. P (f x)) xs → Each P (map f xs)
