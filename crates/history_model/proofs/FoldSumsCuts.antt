@@ -110,17 +110,6 @@ flags-at-cut a t (e ∷ p) g s =
     let found = flags-at-cut a t p g s in
     (e ∷ found.0, found.1, ap (λ l. e ∷ l) found.2, found.3, found.4, found.5)
 
--- an actor that was not flushed has told nothing
-pub flags-none : (a : Actor) (t : ℕ) (h : List Event) → flags_cut a t h ≡ None → flush_cut a t h ≡ 0
-flags-none a t [] e = refl
-flags-none a t (Flush b ∷ p) e =
-    let before = flags-none a t p in
-    (elim (same_actor b a && nat_lt (length p) t) as (λ v. cond v (Some (flags_at a p)) (flags_cut a t p) ≡ None → cond v (length p) (flush_cut a t p) ≡ 0) [
-      | true ↦ λ s. absurd (cc)
-      | false ↦ before
-    ]) e
-flags-none a t (e ∷ p) s = flags-none a t p s
-
 -- ---- cuts lie within the history
 
 pub flush_cut-within : (a : Actor) (t : ℕ) (h : List Event) → flush_cut a t h ≤ length h

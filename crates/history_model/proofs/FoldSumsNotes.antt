@@ -27,11 +27,6 @@ pub told-grows : (cl : Cluster) (u : Actor → ℕ) (t : Note → Bool) (q p : L
 told-grows cl u t [] p = omega arith
 told-grows cl u t (e ∷ q) p = let before = told-grows cl u t q p in omega arith
 
--- the notes that pass the test are told below position k
-abbrev pub AreToldFrom : Cluster → (Actor → ℕ) → (Note → Bool) → ℕ → Type 0
-AreToldFrom cl u t k =
-    (e : Event) (p : List Event) (x : Note) → IsAmong x (notes cl e p) → t x ≡ true → k ≤ u x.by
-
 -- no note that passes the test is told from position k on
 abbrev pub AreToldBelow : Cluster → (Actor → ℕ) → (Note → Bool) → ℕ → Type 0
 AreToldBelow cl u t k =
@@ -44,13 +39,6 @@ told-next cl u t e p all before =
     (λ x m s. and_from (nat_lt (length p) (u x.by)) (t x) (lt-ltb (length p) (u x.by) (all x m s)) s) in
     let most = told-noted cl u t (e ∷ p) in
     omega arith
-
--- where the cuts are no lower than the position, all is told
-pub told-all : (cl : Cluster) (u : Actor → ℕ) (t : Note → Bool) (h : List Event) → AreToldFrom cl u t (length h) → told_sum cl u t h ≡ noted_sum cl t h
-told-all cl u t [] above = refl
-told-all cl u t (e ∷ p) above =
-    told-next cl u t e p (λ x m s. let l = above e p x m s in omega arith)
-    (told-all cl u t p (λ f r x m s. let l = above f r x m s in omega arith))
 
 -- where the cuts are no higher than the position, nothing more is told later
 pub told-below : (cl : Cluster) (u : Actor → ℕ) (t : Note → Bool) (q p : List Event) → AreToldBelow cl u t (length p) → told_sum cl u t (q ++ p) ≡ told_sum cl u t p

@@ -1,12 +1,11 @@
--- Streams, cuts and folds only grow with the history.
-use Rattle.std.proofs.Common.{◌≡◌, ◌≤◌, ◌<◌, ◌&&◌, ◌==◌, ℕ, zero, suc, Bool, true, false, cond, List, [], ◌∷◌, ◌++◌, length, take, refl, sym, ◌∙◌, ap, subst, inl, inr, arith, append_assoc, append-nil, length-append}
+-- Streams and cuts only grow with the history.
+use Rattle.std.proofs.Common.{◌≡◌, ◌≤◌, ◌<◌, ◌&&◌, ◌==◌, ℕ, zero, suc, Bool, true, false, cond, List, [], ◌∷◌, ◌++◌, length, refl, sym, ◌∙◌, ap, subst, inl, inr, arith, append_assoc, append-nil, length-append}
 use Rattle.std.proofs.lemmas.Bool.{cases_lt, and_parts, eqb-true}
-use Rattle.std.proofs.lemmas.List.{take-append-le}
 use Rattle.history_model.specs.declared.events.Event.{Event}
 use Rattle.history_model.specs.declared.events.Event.TheVariants.{Publish, Window, Remove}
 use Rattle.history_model.specs.Cluster.{Cluster}
 use Rattle.history_model.specs.Streams.{Notice, delta, window_of, final_of, queue, window, stream}
-use Rattle.history_model.specs.Folds.{run_of, is_hand, was_handed, cut_at, fold_to, folded}
+use Rattle.history_model.specs.Folds.{run_of, is_hand, was_handed, cut_at}
 use Rattle.history_model.proofs.Basics.{eqb-refl}
 use Rattle.history_model.proofs.AccountsGrowth.{any-stays}
 
@@ -85,15 +84,3 @@ cut-grows cl m q h o =
     let longer = stream-longer cl o q h in
     run_of-longest (λ k. was_handed m o k (q ++ h)) (length (stream cl o (q ++ h))) (cut_at cl m h o) (omega (arith, bound, longer))
     (λ k l. any-stays (is_hand m o k) q h (run_of-passes (λ j. was_handed m o j h) (length (stream cl o h)) k l))
-
--- ---- folds
-
--- the first bulletins of a stream stay as they are
-pub fold-stays : (cl : Cluster) (c : ℕ → ℕ) (q p : List Event) (o : ℕ) → c o ≤ length (stream cl o p) → fold_to cl c p o ≡ fold_to cl c (q ++ p) o
-fold-stays cl c q p o within =
-    let grows = stream-grows cl o q p in
-    sym (ap (take (c o)) grows.1 ∙ take-append-le (c o) (stream cl o p) grows.0 within)
-
--- what was folded at m at a tail is a prefix fold of the longer history
-pub folded-stays : (cl : Cluster) (m : ℕ) (q p : List Event) (o : ℕ) → folded cl m p o ≡ fold_to cl (cut_at cl m p) (q ++ p) o
-folded-stays cl m q p o = fold-stays cl (cut_at cl m p) q p o (cut-bounded cl m p o)
