@@ -1,5 +1,5 @@
--- Births in a legal history: what is born stays born, births are on nodes of the cluster, and whoever notes, is named by
--- a fact, sends, is sent to or is carried was born before.
+-- Births in a legal history: what is born stays born, births are on nodes of the cluster, and whoever notes, is named
+-- by a fact, sends, is sent to or is carried was born before.
 use Rattle.std.proofs.Common.{◌≡◌, ◌<◌, ◌+◌, ◌&&◌, ◌||◌, ℕ, Bool, true, false, List, [], ◌∷◌, ◌++◌, map, refl, ◌∙◌, ap, subst, inl, inr, arith, IsTrue, IsFalse, cond, filter}
 use Rattle.std.proofs.lemmas.Bool.{ltb-true, lt-ltb, le-ltb, cases_lt, and_parts, or_cases, eqb-true}
 use Rattle.std.specs.Prelude.{◌==◌}

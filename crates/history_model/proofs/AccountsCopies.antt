@@ -1,4 +1,5 @@
--- What is on a link of a legal history, and what was admitted there, was sent on it.
+-- What is on a link of a legal history, and what was admitted there, was sent on it. So a number that no message has
+-- yet is new to `AccountsOpen` and `AccountsMail`.
 use Rattle.std.proofs.Common.{◌≡◌, ◌<◌, ◌≤◌, ◌+◌, ◌&&◌, ◌||◌, ℕ, true, false, List, [], ◌∷◌, length, refl, subst, inl, inr, arith, IsTrue, cond}
 use Rattle.std.proofs.lemmas.Bool.{false≢true, ltb-true, le-ltb, cases_lt, and_parts, eqb-true}
 use Rattle.std.specs.Prelude.{◌==◌}

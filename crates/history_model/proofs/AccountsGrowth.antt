@@ -1,4 +1,5 @@
--- What grows with the history: lists of messages go on, and counts never fall.
+-- What grows with the history: lists of messages go on, and counts never fall. Soundness compares a moment with the end
+-- of the history by these.
 use Rattle.std.proofs.Common.{◌≡◌, ◌≤◌, ◌+◌, ◌&&◌, ℕ, zero, suc, Bool, true, false, not, List, [], ◌∷◌, ◌++◌, length, refl, sym, ◌∙◌, ap, subst, arith, IsTrue, cond, take, sum_by, append_assoc, append-nil, length-append, filter}
 use Rattle.std.proofs.lemmas.Bool.{false≢true, or_right}
 use Rattle.std.proofs.lemmas.List.Sums.{sum_by-append}

@@ -1,5 +1,5 @@
--- Each message is admitted at most once: what was admitted to an actor, and what is open on links to it, is what was sent
--- to it.
+-- Each message is admitted at most once: what was admitted to an actor, and what is open on links to it, is what was
+-- sent to it.
 use Rattle.std.proofs.Common.{◌≡◌, ◌≢◌, ◌<◌, ◌≤◌, ◌+◌, ℕ, zero, suc, Bool, true, false, List, [], ◌∷◌, ◌++◌, length, refl, sym, ◌∙◌, ap, subst, inl, inr, arith, IsTrue, cond, filter, sum_by, slice_get, option_to_list}
 use Rattle.std.proofs.lemmas.Bool.{false≢true, cases_lt, eq-eqb, ne_eqb, not-true}
 use Rattle.std.proofs.lemmas.List.Sums.{sum_by-append}

@@ -1,5 +1,5 @@
--- What all notes of a history count: the messages sent to an actor, the references that it was given or sent, those that
--- it gave up, and the messages that it took.
+-- What all notes of a history count: the messages sent to an actor, the references that it was given or sent, those
+-- that it gave up, and the messages that it took.
 use Rattle.std.proofs.Common.{◌≡◌, ◌+◌, ◌&&◌, ℕ, Bool, true, false, List, [], ◌∷◌, map, refl, sym, ◌∙◌, ap, arith, IsTrue, cond, if◌then◌else◌, filter, sum_by}
 use Rattle.std.proofs.Math.Bool.{and-false}
 use Rattle.std.proofs.lemmas.List.Elements.{filter-append}

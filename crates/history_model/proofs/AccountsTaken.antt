@@ -1,4 +1,5 @@
--- No actor takes more than its mail, and none gives up more references than it got.
+-- No actor takes more than its mail, and none gives up more references than it got: so the subtractions of `waiting`
+-- and `held` are exact.
 use Rattle.std.proofs.Common.{◌≡◌, ◌<◌, ◌≤◌, ◌+◌, ◌&&◌, true, false, not, List, [], ◌∷◌, length, refl, subst, arith, cond, length-drop}
 use Rattle.std.proofs.lemmas.Bool.{false≢true, ltb-true, and_parts}
 use Rattle.crgc_ids.specs.Actor.{Actor}

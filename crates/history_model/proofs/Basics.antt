@@ -1,4 +1,4 @@
--- What all proofs about histories use: equality of actors, tallies, and what legality gives.
+-- What all proofs about histories use: equality of actors, and what legality gives.
 use Rattle.std.proofs.Common.{◌≡◌, ℕ, true, false, List, [], ◌∷◌, ◌++◌, refl, sym, ◌∙◌, ap, eqb}
 use Rattle.std.proofs.lemmas.Bool.{and_parts, eqb-true}
 use Rattle.std.proofs.lemmas.Bool.Decides.{Decides-eqb, same_from_decides}
@@ -8,15 +8,21 @@ use Rattle.history_model.specs.declared.events.Event.{Event}
 use Rattle.history_model.specs.Cluster.{Cluster, same_actor}
 use Rattle.history_model.specs.Legal.{Check, checks, first_broken, IsLegal}
 
--- ---- tests
+-- ---- numbers
 
 pub eqb-refl : (n : ℕ) → eqb n n ≡ true
 eqb-refl n = (Decides-eqb n n).1 refl
+
+pub eqb-sym : (m n : ℕ) → eqb m n ≡ eqb n m
+eqb-sym m n = same_from_decides (eqb m n) (eqb n m) (Decides-eqb m n) (λ t. sym ((Decides-eqb n m).0 t), λ e. (Decides-eqb n m).1 (sym e))
 
 -- ---- actors
 
 pub same_actor-refl : (a : Actor) → same_actor a a ≡ true
 same_actor-refl a = rw (eqb-refl a.node, eqb-refl a.serial) refl
+
+pub same_actor-sym : (a b : Actor) → same_actor a b ≡ same_actor b a
+same_actor-sym a b = rw (eqb-sym a.node b.node, eqb-sym a.serial b.serial) refl
 
 -- actors that test the same are equal
 pub same_actor-equal : (a b : Actor) → same_actor a b ≡ true → a ≡ b
@@ -54,11 +60,3 @@ legal-kept cl e p legal = first_broken-none (checks cl e p) legal.0
 pub legal-before : (cl : Cluster) (q p : List Event) → IsLegal cl (q ++ p) → IsLegal cl p
 legal-before cl [] p legal = legal
 legal-before cl (e ∷ q) p legal = legal-before cl q p legal.1
-
--- ---- tests that accounts compare
-
-pub eqb-sym : (m n : ℕ) → eqb m n ≡ eqb n m
-eqb-sym m n = same_from_decides (eqb m n) (eqb n m) (Decides-eqb m n) (λ t. sym ((Decides-eqb n m).0 t), λ e. (Decides-eqb n m).1 (sym e))
-
-pub same_actor-sym : (a b : Actor) → same_actor a b ≡ same_actor b a
-same_actor-sym a b = rw (eqb-sym a.node b.node, eqb-sym a.serial b.serial) refl

@@ -1,4 +1,5 @@
--- At a quiet point all that actors on nodes that are up sent was admitted, but for live messages; and what mail counts.
+-- At a quiet point all that actors on nodes that are up sent was admitted, but for live messages. So what quiescent
+-- actors took, and what their holders got, is all that was told or admitted for them.
 use Rattle.std.proofs.Common.{◌≡◌, ◌≢◌, ◌<◌, ◌≤◌, ◌+◌, ℕ, zero, suc, Bool, true, false, not, List, [], ◌∷◌, length, drop, refl, sym, ◌∙◌, ap, subst, inl, inr, arith, IsTrue, IsFalse, cond, filter, sum_by, take-append-drop}
 use Rattle.std.proofs.lemmas.Bool.{false≢true, false_from_ne_true, true_from_ne_false, not-true}
 use Rattle.crgc_ids.specs.Actor.{Actor}

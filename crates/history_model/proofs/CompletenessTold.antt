@@ -1,4 +1,5 @@
--- At a quiet point all that the actors of the nodes that are up have noted is told, and so are their flags.
+-- At a quiet point all that the actors of the nodes that are up have noted is told, and so are their flags. So the
+-- counts of what is folded there are counts of the history.
 use Rattle.std.proofs.Common.{◌≡◌, ◌<◌, ◌≤◌, ◌&&◌, ◌==◌, ℕ, Bool, true, false, not, List, [], ◌∷◌, ◌++◌, length, refl, sym, ◌∙◌, ap, subst, inl, inr, arith, IsTrue, cond, nat_lt, Option, Some, None, append_assoc, le_of_eq, length-append}
 use Rattle.std.proofs.lemmas.Bool.{cond_both, false≢true, or_parts, and_parts, cases_Bool, not-false}
 use Rattle.std.proofs.lemmas.Bool.Decides.{Decides-ltb}

@@ -1,4 +1,5 @@
--- The counts of a fold of a legal history are sums of the notes below the cuts.
+-- The counts of a fold of a legal history are sums of the notes below the cuts. From here on soundness speaks of cuts
+-- alone, and no more of flushes, publishes and streams.
 use Rattle.std.proofs.Common.{◌≡◌, ◌≤◌, ◌+◌, ◌&&◌, ◌||◌, ℕ, zero, suc, Bool, true, false, cond, not, List, [], ◌∷◌, length, refl, sym, ◌∙◌, ap, inl, inr, arith}
 use Rattle.std.proofs.lemmas.Bool.{and_right, cases_lt, false_from_ne_true, le-ltb, ltb-true, cases_Bool, eqb-true}
 use Rattle.std.specs.List.{flat_map, range_with_len}

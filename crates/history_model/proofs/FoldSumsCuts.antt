@@ -1,4 +1,5 @@
--- Cuts: where the last flush before a position lies, and the flags there. Both are one recursion, `last_flush`.
+-- Cuts: where the last flush before a position lies, and the flags there. Both are one recursion, `last_flush`, whose
+-- laws the files on logs, flags and streams share.
 use Rattle.std.proofs.Common.{◌≡◌, ◌<◌, ◌≤◌, ◌&&◌, ℕ, suc, Bool, true, false, cond, List, [], ◌∷◌, ◌++◌, length, refl, sym, ◌∙◌, ap, subst, inl, inr, arith}
 use Rattle.std.proofs.lemmas.Bool.{and_right, false≢true, le-ltb, lt-ltb, ltb-true, and_parts, cases_Bool}
 use Rattle.std.specs.Prelude.{◌==◌, nat_lt, Option, Some, None}

@@ -1,4 +1,5 @@
--- The last flags of an actor in logs and entries.
+-- The last flags of an actor in logs and entries: `FoldSumsStreams` uses this where a flush moves its flags into an
+-- entry.
 use Rattle.std.proofs.Common.{◌≡◌, suc, Bool, true, false, cond, List, [], ◌∷◌, ◌++◌, length, refl, sym, ◌∙◌, ap, inl, inr, arith}
 use Rattle.std.proofs.lemmas.Bool.{cases_Bool}
 use Rattle.std.specs.Prelude.{Option, Some, None, unwrap_or}

@@ -1,4 +1,5 @@
--- The known actors of a fold, and what holds of every positive edge.
+-- The known actors of a fold, and that both ends of a positive edge are known: so the dead may be sought among the
+-- known actors, as `FoldSumsDead` does.
 use Rattle.std.proofs.Common.{◌≡◌, ◌<◌, ◌+◌, ◌||◌, ◌↔◌, ◌⊎◌, ℕ, Bool, true, false, cond, List, [], ◌∷◌, ◌++◌, refl, sym, ◌∙◌, subst, inl, inr, arith}
 use Rattle.std.proofs.lemmas.Bool.{false≢true, ltb-true, or_left, or_right, and_parts, or_cases}
 use Rattle.std.specs.List.{flat_map}

@@ -1,4 +1,5 @@
--- Logs: which events add to them, and that what an actor noted past its last flush is its log.
+-- Logs: which events add to them, and that what an actor noted past its last flush is its log. `FoldSumsStreams` uses
+-- this where a flush moves a log into an entry.
 use Rattle.std.proofs.Common.{◌≡◌, ◌<◌, ◌≤◌, ◌+◌, ◌&&◌, ℕ, suc, Bool, true, false, cond, List, [], ◌∷◌, ◌++◌, length, refl, sym, ◌∙◌, ap, subst, inl, inr, arith}
 use Rattle.std.proofs.lemmas.Bool.{false≢true, le-ltb, lt-ltb, cases_Bool}
 use Rattle.std.proofs.lemmas.List.{append-nil}

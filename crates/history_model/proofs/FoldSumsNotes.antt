@@ -1,4 +1,5 @@
--- Sums of told notes: how they compare with all notes, grow with the history, and depend on cuts and tests.
+-- Sums of told notes: how they compare with all notes, grow with the history, and depend on cuts and tests. Both the
+-- counts of folds (`FoldSumsCounts`) and the core of soundness (`SoundnessTold`) are such sums.
 use Rattle.std.proofs.Common.{◌≡◌, ◌<◌, ◌≤◌, ◌&&◌, ℕ, Bool, true, false, cond, List, [], ◌∷◌, ◌++◌, length, map, refl, sym, ◌∙◌, ap, subst, inl, inr, arith}
 use Rattle.std.proofs.Math.Bool.{and-false}
 use Rattle.std.proofs.lemmas.Bool.{and_from, false≢true, lt-ltb, ltb-true, and_parts, false_from_ne_true}

@@ -1,4 +1,5 @@
--- The dead are exactly the known actors outside the lost nodes that no pseudoroot reaches.
+-- The dead, which are computed as a greatest set, are exactly the known actors outside the lost nodes that no
+-- pseudoroot reaches.
 use Rattle.std.proofs.Common.{◌≡◌, ◌↔◌, ◌⊎◌, ◌&&◌, ◌||◌, ℕ, zero, suc, Bool, true, false, not, List, [], ◌∷◌, length, refl, sym, ◌∙◌, subst, inl, inr}
 use Rattle.std.proofs.lemmas.Bool.{false≢true, or_parts, cases_Bool, not-false}
 use Rattle.std.specs.List.{filter, list_all}

@@ -1,4 +1,5 @@
--- What the first bulletins of a stream tell: the notes below the cuts, and the flags there.
+-- What the first bulletins of a stream tell: the notes below the cuts, and the flags there. `FoldSumsCounts` adds up
+-- the streams of all nodes.
 use Rattle.std.proofs.Common.{◌≡◌, ◌≤◌, ◌+◌, ◌&&◌, ℕ, suc, Bool, true, false, cond, List, ◌∷◌, length, take, refl, sym, ◌∙◌, ap, inl, inr, arith}
 use Rattle.std.proofs.lemmas.Bool.{and_right, cases_Bool}
 use Rattle.std.specs.Prelude.{◌==◌, nat_lt, Option, None}

@@ -1,4 +1,4 @@
--- No node leaves the lost ones; at a quiet point they are exactly the nodes that have crashed.
+-- No node leaves the lost ones; at a quiet point they are exactly the nodes that have crashed, as completeness needs.
 use Rattle.std.proofs.Common.{◌≡◌, ◌≤◌, ◌<◌, ℕ, zero, suc, true, false, not, List, [], ◌∷◌, ◌++◌, take, sym, ◌∙◌, ap, subst, inl, inr, arith}
 use Rattle.std.proofs.lemmas.Bool.{false_from_ne_true, true≢false, not-true, cases_Bool}
 use Rattle.std.proofs.lemmas.List.{take_all}

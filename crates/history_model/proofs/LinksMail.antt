@@ -1,4 +1,5 @@
--- Where the lost nodes are settled, what a fold admits from them is the mail that they sent.
+-- Where the lost nodes are settled, what a fold admits from them is the mail that they sent: this is what balances and
+-- edges count in the place of what lost nodes told.
 use Rattle.std.proofs.Common.{◌≡◌, ◌≢◌, ◌≤◌, ◌<◌, ◌+◌, ◌&&◌, ◌==◌, ℕ, zero, suc, Bool, true, false, cond, if◌then◌else◌, List, [], ◌∷◌, ◌++◌, map, take, drop, slice_get, option_to_list, sum_by, refl, sym, ◌∙◌, ap, ap₂, subst, inl, inr, arith, ltb-true, ne_eqb, take-append-drop}
 use Rattle.std.proofs.lemmas.Bool.{eqb-true}
 use Rattle.std.proofs.lemmas.List.Sums.{sum_by-append}

@@ -1,4 +1,4 @@
--- Streams and cuts only grow with the history.
+-- Streams and cuts only grow with the history, and so, by `LinksLost`, do the lost nodes.
 use Rattle.std.proofs.Common.{◌≡◌, ◌≤◌, ◌<◌, ◌&&◌, ◌==◌, ℕ, zero, suc, Bool, true, false, cond, List, [], ◌∷◌, ◌++◌, length, refl, sym, ◌∙◌, ap, subst, inl, inr, arith, append_assoc, append-nil, length-append}
 use Rattle.std.proofs.lemmas.Bool.{cases_lt, and_parts, eqb-true}
 use Rattle.history_model.specs.declared.events.Event.{Event}

@@ -1,4 +1,5 @@
--- Sums and tallies over lists, and sums over the nodes of a cluster.
+-- Sums and tallies over lists, and sums over the nodes of a cluster: what a fold admits from lost nodes is summed node
+-- by node in `LinksMail`.
 use Rattle.std.proofs.Common.{◌≡◌, ◌≢◌, ◌≤◌, ◌<◌, ◌+◌, ℕ, zero, suc, Bool, true, false, cond, List, [], ◌∷◌, sum_by, flat_map, refl, sym, ◌∙◌, ap, inl, inr, arith}
 use Rattle.std.proofs.lemmas.Bool.{cases_eq}
 use Rattle.std.proofs.lemmas.List.Sums.{sum_by-cons}

@@ -1,5 +1,5 @@
--- Soundness: the dead of a fold of a legal history are a quiet set, for every choice of folded bulletins and every settled
--- set of lost nodes.
+-- Soundness: the dead of a fold of a legal history are a quiet set, for every choice of folded bulletins and every
+-- settled set of lost nodes.
 use Rattle.std.proofs.Common.{◌≡◌, ◌<◌, ◌≤◌, ◌+◌, ◌⊎◌, ℕ, Bool, false, List, [], ◌∷◌, ◌++◌, length, drop, sum_by, IsTrue, sym, ◌∙◌, ap, subst, inl, inr, arith, append_assoc, length-append}
 use Rattle.std.proofs.Math.Seq.{drop-append_seam}
 use Rattle.std.proofs.lemmas.Bool.{cases_lt, lt-ltb}

@@ -1,5 +1,5 @@
--- One event more: what is noted past the cuts gives nobody access to a member, and members past their cuts stay at rest.
--- So every moment of the history has what `SoundnessTold` calls told, and `SoundnessQuiet` takes the last one.
+-- One event more: what is noted past the cuts gives nobody access to a member, and members past their cuts stay at
+-- rest. So every moment of the history has what `SoundnessTold` calls told, and `SoundnessQuiet` takes the last one.
 use Rattle.std.proofs.Common.{◌≡◌, ◌<◌, ◌≤◌, ℕ, Bool, true, false, not, List, [], ◌∷◌, ◌++◌, length, map, refl, sym, ◌∙◌, subst, inl, inr, arith, append_assoc}
 use Rattle.std.proofs.lemmas.Bool.{cases_lt, false≢true, and_parts, not-true}
 use Rattle.std.proofs.lemmas.List.{drop_all}

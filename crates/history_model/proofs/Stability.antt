@@ -1,4 +1,5 @@
 -- A quiet set stays quiet: in every longer legal history nobody outside it can use its members, and none of them acts.
+-- So whom a sweep stopped is quiescent ever after (`Stopped`).
 use Rattle.std.proofs.Common.{List, [], ◌∷◌, ◌++◌, refl, sym, ◌∙◌, subst, inl, inr, arith}
 use Rattle.std.proofs.lemmas.Bool.{false≢true}
 use Rattle.crgc_ids.specs.Actor.{Actor}

@@ -1,4 +1,5 @@
--- The next event of a legal history gives nobody a reference to a member of a quiet set.
+-- The next event of a legal history gives nobody a reference to a member of a quiet set: nobody gives one, and no
+-- message that is taken carries one.
 use Rattle.std.proofs.Common.{inl, ◌≡◌, ◌≤◌, ◌+◌, ◌==◌, ℕ, zero, suc, true, List, [], ◌∷◌, take, drop, refl, sym, ◌∙◌, ap, subst, arith, if◌then◌else◌, filter, add-one, add-zero}
 use Rattle.std.proofs.lemmas.Bool.{and_right, cond_both, false_from_ne_true, false≢true}
 use Rattle.std.proofs.lemmas.List.{take-append-le}

@@ -1,4 +1,5 @@
--- What is live after the next event of a legal history was live before, or is the message that the event sends.
+-- What is live after the next event of a legal history was live before, or is the message that the event sends. So
+-- `Stability` need look at senders alone.
 use Rattle.std.proofs.Common.{◌≡◌, ◌≢◌, ◌<◌, ◌≤◌, ◌+◌, ◌-◌, ◌&&◌, ◌⊎◌, ◌==◌, ℕ, zero, suc, Bool, true, false, List, [], ◌∷◌, ◌++◌, length, drop, refl, sym, ◌∙◌, ap, subst, inl, inr, arith, IsFalse, if◌then◌else◌, nat_lt, filter, slice_get, option_to_list, Option, Some, None, add-one}
 use Rattle.std.proofs.lemmas.Bool.{cond_both, false≢true, or_parts, not-true}
 use Rattle.std.proofs.lemmas.Bool.Decides.{Decides-eqb, Decides-ltb}

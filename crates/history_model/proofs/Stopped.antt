@@ -1,5 +1,5 @@
--- Stopped actors: whom a sweep stopped is quiescent ever after, and after a sweep at a quiet point the stopped actors of
--- the node are exactly its quiescent ones.
+-- Stopped actors: whom a sweep stopped is quiescent ever after, and after a sweep at a quiet point the stopped actors
+-- of the node are exactly its quiescent ones.
 use Rattle.std.proofs.Common.{◌≡◌, ◌↔◌, ◌==◌, ℕ, true, List, [], ◌∷◌, ◌∙◌, ap, inl, inr}
 use Rattle.std.proofs.lemmas.Bool.{and_from, false≢true, or_left, and_parts, or_cases}
 use Rattle.crgc_ids.specs.Actor.{Actor}

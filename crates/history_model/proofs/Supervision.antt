@@ -1,6 +1,6 @@
--- In version 2 a child always holds its parent: the parent gives it a reference when it spawns it, and it may not give up
--- the last one. So a quiet set holds, with each parent, its children on nodes that are up, and the children of a stopped
--- actor are stopped.
+-- In version 2 a child always holds its parent: the parent gives it a reference when it spawns it, and it may not give
+-- up the last one. So a quiet set holds, with each parent, its children on nodes that are up, and the children of a
+-- stopped actor are stopped.
 use Rattle.std.proofs.Common.{◌≡◌, ◌<◌, ◌+◌, ◌==◌, ◌&&◌, ℕ, true, false, cond, IsTrue, List, [], ◌∷◌, refl, sym, ◌∙◌, ap, subst, inl, inr, arith}
 use Rattle.std.proofs.lemmas.Bool.{and_from, cond_both, false≢true, ltb-true, or_left, or_right, and_parts, or_cases, not-true, eqb-true}
 use Rattle.crgc_ids.specs.Actor.{Actor}
