@@ -1,9 +1,9 @@
 -- What all proofs about histories use: equality of actors, and what legality gives.
-use Rattle.std.proofs.Common.{◌≡◌, ℕ, true, false, List, [], ◌∷◌, ◌++◌, refl, sym, ◌∙◌, ap, eqb}
-use Rattle.std.proofs.lemmas.Bool.{and_parts, eqb-true}
+use Rattle.std.proofs.Common.{◌≡◌, ℕ, true, false, List, [], ◌∷◌, ◌++◌, refl, sym, eqb}
 use Rattle.std.proofs.lemmas.Bool.Decides.{Decides-eqb, same_from_decides}
 use Rattle.std.specs.Prelude.{Some, None, cond}
 use Rattle.crgc_ids.specs.Actor.{Actor}
+use Rattle.crgc_ids.proofs.ActorLaws.{same_actor-decides}
 use Rattle.history_model.specs.declared.events.Event.{Event}
 use Rattle.history_model.specs.Cluster.{Cluster, same_actor}
 use Rattle.history_model.specs.Legal.{Check, checks, first_broken, IsLegal}
@@ -19,21 +19,14 @@ eqb-sym m n = same_from_decides (eqb m n) (eqb n m) (Decides-eqb m n) (λ t. sym
 -- ---- actors
 
 pub same_actor-refl : (a : Actor) → same_actor a a ≡ true
-same_actor-refl a = rw (eqb-refl a.node, eqb-refl a.serial) refl
+same_actor-refl a = (same_actor-decides a a).1 refl
 
 pub same_actor-sym : (a b : Actor) → same_actor a b ≡ same_actor b a
 same_actor-sym a b = rw (eqb-sym a.node b.node, eqb-sym a.serial b.serial) refl
 
 -- actors that test the same are equal
 pub same_actor-equal : (a b : Actor) → same_actor a b ≡ true → a ≡ b
-same_actor-equal a b t =
-    let both = and_parts (eqb a.node b.node) (eqb a.serial b.serial) t in
-    let node : a.node ≡ b.node = eqb-true a.node b.node both.0 in
-    let serial : a.serial ≡ b.serial = eqb-true a.serial b.serial both.1 in
-    let one : Actor = record { node = b.node; serial = a.serial } in
-    let first : a ≡ one = ap (λ (n : ℕ). let c : Actor = record { node = n; serial = a.serial } in c) node in
-    let second : one ≡ b = ap (λ (n : ℕ). let c : Actor = record { node = b.node; serial = n } in c) serial in
-    first ∙ second
+same_actor-equal a b t = (same_actor-decides a b).0 t
 
 -- ---- legality
 

@@ -16,6 +16,7 @@ pub mod FoldSumsBulletins
 pub mod FoldSumsStreams
 pub mod FoldSumsCounts
 pub mod FoldSumsKnown
+pub mod FoldSumsRising
 pub mod FoldSumsDead
 pub mod FoldSumsReached
 pub mod LinksSums

@@ -1,21 +1,25 @@
 //! The laws of the collector. Each function does nothing, and its contract is the law. They hold of every legal history of
 //! every cluster, in both versions, with losses, repeats, crashes and removals; a history is a list of events, the newest
 //! first, and `q ++ h` is a longer one.
-ghost use Rattle.std.specs.Prelude.{◌≡◌, ◌≤◌, ◌↔◌, ◌++◌, ◌∷◌, ℕ, Bool, true, false, IsTrue, List};
-ghost use Rattle.crgc_ids.specs.Actor.{Actor};
+ghost use Rattle.std.specs.Prelude.{◌≡◌, ◌≤◌, ◌+◌, ◌↔◌, ◌++◌, ◌∷◌, ℕ, Bool, true, false, IsTrue, if◌then◌else◌, nat_lt, List, length};
+ghost use Rattle.crgc_ids.specs.Actor.{Actor, IsActorBelow};
 ghost use Rattle.crgc_ids.specs.LostNodes.{IsLostSet};
 ghost use Rattle.crgc_ids.specs.Members.{IsAmong, IsPart};
+ghost use Rattle.crgc_ids.specs.Rising.{IsRising};
 ghost use Rattle.history_model.specs.declared.events.Event.{Event};
 ghost use Rattle.history_model.specs.declared.events.Event.TheVariants.{Sweep};
 ghost use Rattle.history_model.specs.Cluster.{Cluster};
 ghost use Rattle.history_model.specs.Folds.{Fold, final_links, fold_to, folded, is_lost, lost_of};
 ghost use Rattle.history_model.specs.Graph.{dead, known_actors};
+ghost use Rattle.history_model.specs.Held.{gave, got};
 ghost use Rattle.history_model.specs.Legal.{IsLegal, is_parent};
+ghost use Rattle.history_model.specs.Messages.{is_admit, is_lose, is_repeat, mail, sent, takes};
 ghost use Rattle.history_model.specs.Quiescent.{IsQuiescent, IsQuietPoint, IsQuietSet};
 ghost use Rattle.history_model.specs.Reached.{IsReached};
 ghost use Rattle.history_model.specs.Settled.{AreSettled};
 ghost use Rattle.history_model.specs.State.{is_up};
-ghost use Rattle.history_model.specs.Sweeps.{dead_at, is_stopped};
+ghost use Rattle.history_model.specs.Sweeps.{dead_at, is_stopped, stop_of, stopped_by};
+ghost use Rattle.history_model.specs.Tally.{tally};
 
 /// Soundness. Nobody can use an actor that is dead in what is folded at a node, and none of the dead acts of itself: all
 /// of them together, on all nodes, are the set that shows each of them quiescent.
@@ -74,4 +78,21 @@ pub fn lost_nodes_only_grow()
 /// that begins with a pseudoroot and has a positive edge from each to the next.
 pub fn the_dead_are_the_unreached()
     ensures { (cl : Cluster) (lost : ℕ → Bool) (f : Fold) (a : Actor) → IsAmong a (dead cl lost f) ↔ (IsAmong a (known_actors cl f) × (lost a.node ≡ false) × ¬ IsReached cl lost f a) }
+{}
+
+/// The subtractions of the definitions are exact in a legal history: no actor takes more than its mail or gives up more
+/// references than it got, and no more copies of a message are lost and admitted than came onto its link.
+pub fn no_count_falls_below_zero()
+    ensures mail { (cl : Cluster) (h : List Event) (a : Actor) → IsLegal cl h → takes a h ≤ length (mail a h) }
+    ensures held { (cl : Cluster) (h : List Event) (b a : Actor) → IsLegal cl h → gave b a h ≤ got cl b a h }
+    ensures copies { (cl : Cluster) (h : List Event) (s d k : ℕ) → IsLegal cl h → tally (is_lose s d k) h + tally (is_admit s d k) h ≤ (if nat_lt k (length (sent s d h)) then 1 else 0) + tally (is_repeat s d k) h }
+{}
+
+/// The known actors of a fold, its dead, the actors that a sweep stops and the owners of each rise by node, then by
+/// serial. So none stands twice.
+pub fn listed_actors_rise()
+    ensures known { (cl : Cluster) (f : Fold) → IsRising IsActorBelow (known_actors cl f) }
+    ensures dead { (cl : Cluster) (lost : ℕ → Bool) (f : Fold) → IsRising IsActorBelow (dead cl lost f) }
+    ensures stopped { (cl : Cluster) (m : ℕ) (h : List Event) → IsRising IsActorBelow (stopped_by cl m h) }
+    ensures owners { (cl : Cluster) (lost : ℕ → Bool) (f : Fold) (a : Actor) → IsRising IsActorBelow (stop_of cl lost f a).owners }
 {}
