@@ -13,6 +13,7 @@ use Rattle.history_model.specs.Facts.{Flags}
 use Rattle.history_model.specs.Folds.{Fold}
 use Rattle.history_model.specs.Graph.{admitted_count, candidates, dead, has_edge, holds_actor, is_balanced, is_pseudoroot, is_unreached, known_actors, may_act, own_flags, received_count, told_count}
 use Rattle.history_model.proofs.FoldSumsKnown.{edge-known, holds-among}
+use Rattle.history_model.specs.Sweeps.{stop_of}
 
 -- ---- candidates
 
@@ -103,6 +104,13 @@ pub dead-closed : (cl : Cluster) (lost : ℕ → Bool) (f : Fold) → AreClosed 
 unfolding dead
 dead-closed cl lost f b a h edge out =
     unreached-closed cl lost f (dead cl lost f) a (greatest-fit (is_unreached cl lost f) (candidates cl lost f) a h) b edge out
+
+-- so the owners of a dead actor are dead
+pub dead-owners : (cl : Cluster) (lost : ℕ → Bool) (f : Fold) (a b : Actor) → IsAmong a (dead cl lost f) → IsAmong b (stop_of cl lost f a).owners → IsAmong b (dead cl lost f)
+dead-owners cl lost f a b h owner =
+    let kept = IsAmong-from_filter (λ c. not (lost c.node) && has_edge cl lost f c a) b (known_actors cl f) owner in
+    let both = and_parts (not (lost b.node)) (has_edge cl lost f b a) kept.1 in
+    dead-closed cl lost f b a h both.1 (not-true (lost b.node) both.0)
 
 -- each closed list of candidates lies within the dead
 pub dead-greatest : (cl : Cluster) (lost : ℕ → Bool) (f : Fold) (xs : List Actor) → AreCandidates cl lost f xs → AreClosed cl lost f xs → IsPart xs (dead cl lost f)

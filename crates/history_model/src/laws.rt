@@ -60,6 +60,13 @@ pub fn children_go_with_their_parents()
     ensures stopped { (cl : Cluster) (h : List Event) (a b : Actor) → cl.version ≡ 2 → IsLegal cl h → is_stopped cl a h ≡ true → is_parent a b h ≡ true → is_stopped cl b h ≡ true }
 {}
 
+/// The evidence of a stop: a dead actor received as many messages as were told or admitted for it, and whoever has a
+/// positive edge to it from outside the lost nodes is dead too.
+pub fn the_evidence_of_a_stop()
+    ensures balance { (cl : Cluster) (lost : ℕ → Bool) (f : Fold) (a : Actor) → IsAmong a (dead cl lost f) → (stop_of cl lost f a).received ≡ (stop_of cl lost f a).told + (stop_of cl lost f a).admitted }
+    ensures owners { (cl : Cluster) (lost : ℕ → Bool) (f : Fold) (a b : Actor) → IsAmong a (dead cl lost f) → IsAmong b (stop_of cl lost f a).owners → IsAmong b (dead cl lost f) }
+{}
+
 /// The lost nodes of a fold are the greatest set of nodes that a folded Final names as removed, and from each of which the
 /// Final of the link to each node outside the set is folded.
 pub fn lost_nodes_are_the_greatest_set()
