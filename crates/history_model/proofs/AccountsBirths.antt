@@ -1,51 +1,24 @@
--- Births in a legal history: what is born stays born, births are on nodes of the cluster, and whoever notes, is named by
--- a fact, sends, is sent to or is carried was born before.
-use Rattle.std.proofs.Common.{◌≡◌, ◌<◌, ◌+◌, ◌&&◌, ◌||◌, ℕ, zero, suc, Bool, true, false, List, [], ◌∷◌, ◌++◌, map, refl, sym, ◌∙◌, ap, subst, inl, inr, arith, IsTrue, IsFalse, cond, drop, filter, slice_get, option_to_list}
-use Rattle.std.proofs.lemmas.Bool.{ltb-true, lt-ltb, le-ltb, cases_lt}
+-- Births in a legal history: what is born stays born, births are on nodes of the cluster, and whoever notes, is named
+-- by a fact, sends, is sent to or is carried was born before.
+use Rattle.std.proofs.Common.{◌≡◌, ◌<◌, ◌+◌, ◌&&◌, ◌||◌, ℕ, Bool, true, false, List, [], ◌∷◌, ◌++◌, map, refl, ◌∙◌, ap, subst, inl, inr, arith, IsTrue, IsFalse, cond, filter}
+use Rattle.std.proofs.lemmas.Bool.{ltb-true, lt-ltb, le-ltb, cases_lt, and_parts, or_cases, eqb-true}
 use Rattle.std.specs.Prelude.{◌==◌}
 use Rattle.crgc_ids.specs.Actor.{Actor}
 use Rattle.crgc_ids.specs.Members.{IsAmong}
 use Rattle.crgc_ids.proofs.MembersLaws.{IsAmong-append_cases, IsAmong-append_left, IsAmong-append_right, IsAmong-from_filter}
 use Rattle.history_model.specs.declared.events.Event.{Event}
 use Rattle.history_model.specs.declared.events.Event.TheVariants.{Seed, Tie, Take, Spawn, Send, Drop, Admit}
-use Rattle.history_model.specs.Tally.{tally}
 use Rattle.history_model.specs.Cluster.{Cluster, same_actor, is_birth_on, births, newborn, is_born}
 use Rattle.history_model.specs.Messages.{Message, sent, message_at, admitted_by, was_admitted, is_to, mail, takes, waiting}
 use Rattle.history_model.specs.Facts.{received, sent_to, created, released, Note, note_by, notes, names, message_facts}
 use Rattle.history_model.specs.Legal.{Check, born_all, IsLegal}
-use Rattle.history_model.proofs.Basics.{and_true, or_true, eqb-refl, eqb-equal, same_actor-equal, tally-append, AreKept, legal-kept}
+use Rattle.history_model.proofs.Basics.{eqb-refl, same_actor-equal, AreKept, legal-kept}
 use Rattle.history_model.proofs.Sums.{all_sent, noted_sum}
+use Rattle.history_model.proofs.Lists.{Each, each-none, each-more, each-one, among-drop, among-place, each-map, tally-append, tally-some}
 
 -- ---- members of lists
 
 module _ {A : Type 0} where
-  -- a predicate of all members
-  abbrev pub Each : (A → Type 0) → List A → Type 0
-  Each P xs = (x : A) → IsAmong x xs → P x
-
-  pub each-none : (P : A → Type 0) → Each P []
-  each-none P x among = absurd among
-
-  pub each-more : (P : A → Type 0) (x : A) (xs : List A) → P x → Each P xs → Each P (x ∷ xs)
-  each-more P x xs first rest y (inl e) = subst P (sym e) first
-  each-more P x xs first rest y (inr among) = rest y among
-
-  -- a list of one
-  pub each-one : (P : A → Type 0) (x : A) → P x → Each P (x ∷ [])
-  each-one P x first = each-more P x [] first (each-none P)
-
-  -- a member of a part is one of the list
-  pub among-drop : (n : ℕ) (x : A) (xs : List A) → IsAmong x (drop n xs) → IsAmong x xs
-  among-drop zero x xs among = among
-  among-drop (suc n) x [] among = absurd among
-  among-drop (suc n) x (y ∷ ys) among = inr (among-drop n x ys among)
-
-  pub among-place : (k : ℕ) (x : A) (xs : List A) → IsAmong x (option_to_list (slice_get xs k)) → IsAmong x xs
-  among-place k x [] among = absurd among
-  among-place zero x (y ∷ ys) (inl e) = inl e
-  among-place zero x (y ∷ ys) (inr none) = absurd none
-  among-place (suc k) x (y ∷ ys) among = inr (among-place k x ys among)
-
   among-then : (b : Bool) (x : A) (xs : List A) → IsAmong x (cond b xs []) → IsAmong x xs
   among-then true x xs among = among
   among-then false x xs among = absurd among
@@ -53,11 +26,6 @@ module _ {A : Type 0} where
   among-else : (b : Bool) (x : A) (xs : List A) → IsAmong x (cond b [] xs) → IsAmong x xs
   among-else true x xs among = absurd among
   among-else false x xs among = among
-
--- what is true of the images of all members
-pub each-map : {A B : Type 0} (P : B → Type 0) (f : A → B) (xs : List A) → Each (λ x. P (f x)) xs → Each P (map f xs)
-each-map P f [] each = each-none P
-each-map P f (x ∷ xs) each = each-more P (f x) (map f xs) (each x (inl refl)) (each-map P f xs (λ y among. each y (inr among)))
 
 -- ---- births
 
@@ -82,7 +50,7 @@ births-on_nodes cl (Seed m ∷ p) legal n some =
     let before = births-on_nodes cl p legal.1 n in
     let node : m < cl.nodes = ltb-true m cl.nodes kept.0 in
     let split = elim (m == n) as (λ v. (m == n) ≡ v → 0 < cond v (births n p + 1) (births n p) → n < cl.nodes) [
-      | true ↦ λ same _. subst (λ k. k < cl.nodes) (eqb-equal m n same) node
+      | true ↦ λ same _. subst (λ k. k < cl.nodes) (eqb-true m n same) node
       | false ↦ λ _ earlier. before earlier
     ] in
     split refl some
@@ -92,7 +60,7 @@ births-on_nodes cl (Spawn a ∷ p) legal n some =
     let parent : a.serial < births a.node p = ltb-true a.serial (births a.node p) kept.0 in
     let node : a.node < cl.nodes = before a.node (omega arith) in
     let split = elim (a.node == n) as (λ v. (a.node == n) ≡ v → 0 < cond v (births n p + 1) (births n p) → n < cl.nodes) [
-      | true ↦ λ same _. subst (λ k. k < cl.nodes) (eqb-equal a.node n same) node
+      | true ↦ λ same _. subst (λ k. k < cl.nodes) (eqb-true a.node n same) node
       | false ↦ λ _ earlier. before n earlier
     ] in
     split refl some
@@ -115,7 +83,7 @@ same-born h b a born same = subst (λ c. IsTrue (is_born c h)) (same_actor-equal
 
 pair-born : (h : List Event) (b c a : Actor) → IsTrue (is_born b h) → IsTrue (is_born c h) → IsTrue (same_actor b a || same_actor c a) → IsTrue (is_born a h)
 pair-born h b c a first second named =
-    elim (or_true (same_actor b a) (same_actor c a) named) [ inl same ↦ same-born h b a first same | inr same ↦ same-born h c a second same ]
+    elim (or_cases (same_actor b a) (same_actor c a) named) [ inl same ↦ same-born h b a first same | inr same ↦ same-born h c a second same ]
 
 created-born : (h : List Event) (by b a : Actor) → IsTrue (is_born by h) → IsTrue (is_born b h) → IsTrue (is_born a h) → AreBorn h (note_by by (created b a))
 created-born h by b a noter owner target = (noter, λ c named. pair-born h b a c owner target named)
@@ -174,17 +142,6 @@ notes-born cl (Drop a t) p legal =
     each-one (AreBorn h) (note_by a (released a t)) (kept.0, λ c named. pair-born h a t c kept.0 kept.1.0 named)
 notes-born cl e p legal = each-none (AreBorn (e ∷ p))
 
--- a tally that is not 0 counts a member that passes
-tally-some : {A : Type 0} (test : A → Bool) (xs : List A) → 0 < tally test xs → (x : A) × IsAmong x xs × IsTrue (test x)
-tally-some test [] some = absurd (omega arith)
-tally-some {A} test (x ∷ xs) some =
-    let rest = tally-some test xs in
-    let split = elim (test x) as (λ v. test x ≡ v → 0 < cond v (tally test xs + 1) (tally test xs) → (y : A) × IsAmong y (x ∷ xs) × IsTrue (test y)) [
-      | true ↦ λ passes _. (x, inl refl, passes)
-      | false ↦ λ _ later. (let found = rest later in (found.0, inr found.1, found.2))
-    ] in
-    split refl some
-
 -- who was born before the event is born after it
 born-later : (e : Event) (p : List Event) (x : Note) → AreBorn p x → AreBorn (e ∷ p) x
 born-later e p x born = (born-grows x.by (e ∷ []) p born.0, λ a named. born-grows a (e ∷ []) p (born.1 a named))
@@ -210,9 +167,9 @@ sent-among s d (Send f t refs ∷ p) m among =
     let Found : Type 0 = IsAmong m (all_sent p ++ one ∷ []) × (m.from.node ≡ s) × (m.to.node ≡ d) in
     let before : IsAmong m (sent s d p) → Found = λ earlier. (let found = sent-among s d p m earlier in (IsAmong-append_left m (all_sent p) (one ∷ []) found.0, found.1, found.2)) in
     let now : IsTrue ((f.node == s) && (t.node == d)) → IsAmong m (one ∷ []) → Found = λ same here.
-    let both = and_true (f.node == s) (t.node == d) same in
+    let both = and_parts (f.node == s) (t.node == d) same in
     let is_one : m ≡ one = elim here [ inl e ↦ e | inr none ↦ absurd none ] in
-    (IsAmong-append_right m (all_sent p) (one ∷ []) here, ap (λ (k : Message). k.from.node) is_one ∙ eqb-equal f.node s both.0, ap (λ (k : Message). k.to.node) is_one ∙ eqb-equal t.node d both.1) in
+    (IsAmong-append_right m (all_sent p) (one ∷ []) here, ap (λ (k : Message). k.from.node) is_one ∙ eqb-true f.node s both.0, ap (λ (k : Message). k.to.node) is_one ∙ eqb-true t.node d both.1) in
     let split = elim ((f.node == s) && (t.node == d)) as (λ v. ((f.node == s) && (t.node == d)) ≡ v → IsAmong m (cond v (sent s d p ++ one ∷ []) (sent s d p)) → Found) [
       | true ↦ λ same either. elim (IsAmong-append_cases m (sent s d p) (one ∷ []) either) [ inl earlier ↦ before earlier | inr here ↦ now same here ]
       | false ↦ λ _ earlier. before earlier

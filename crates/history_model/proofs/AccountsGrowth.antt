@@ -1,6 +1,7 @@
--- What grows with the history: lists of messages go on, and counts never fall.
-use Rattle.std.proofs.Common.{◌≡◌, ◌≤◌, ◌+◌, ◌&&◌, ◌||◌, ℕ, zero, suc, Bool, true, false, not, List, [], ◌∷◌, ◌++◌, length, refl, sym, ◌∙◌, ap, subst, arith, IsTrue, cond, take, sum_by, append_assoc, append-nil, length-append, filter}
-use Rattle.std.proofs.lemmas.Bool.{false≢true}
+-- What grows with the history: lists of messages go on, and counts never fall. Soundness compares a moment with the end
+-- of the history by these.
+use Rattle.std.proofs.Common.{◌≡◌, ◌≤◌, ◌+◌, ◌&&◌, ℕ, zero, suc, Bool, true, false, not, List, [], ◌∷◌, ◌++◌, length, refl, sym, ◌∙◌, ap, subst, arith, IsTrue, cond, take, sum_by, append_assoc, append-nil, length-append, filter}
+use Rattle.std.proofs.lemmas.Bool.{false≢true, or_right}
 use Rattle.std.proofs.lemmas.List.Sums.{sum_by-append}
 use Rattle.std.specs.List.{list_any}
 use Rattle.std.specs.Prelude.{◌==◌}
@@ -8,12 +9,10 @@ use Rattle.crgc_ids.specs.Actor.{Actor}
 use Rattle.history_model.specs.declared.events.Event.{Event}
 use Rattle.history_model.specs.declared.events.Event.TheVariants.{Seed, Tie, Spawn, Send, Admit}
 use Rattle.history_model.specs.Cluster.{Cluster}
-use Rattle.history_model.specs.Messages.{Message, sent, mail, is_to, admitted_by, is_take_by, is_admit, is_removal, takes, taken, was_admitted, is_closed}
-use Rattle.history_model.specs.Facts.{Note}
-use Rattle.history_model.specs.Held.{gifts, carried, got, gave, is_drop_of}
+use Rattle.history_model.specs.Messages.{Message, sent, mail, is_to, admitted_by, is_take_by, takes, taken}
+use Rattle.history_model.specs.Held.{gifts, carried, got}
 use Rattle.history_model.specs.State.{is_up, is_crash}
-use Rattle.history_model.proofs.Basics.{tally-append}
-use Rattle.history_model.proofs.Sums.{all_sent, noted_sum}
+use Rattle.history_model.proofs.Lists.{tally-append}
 
 -- the second list begins with the first
 abbrev pub Begins : {A : Type 0} → List A → List A → Type 0
@@ -54,13 +53,6 @@ sent-begins s d (Send f t refs ∷ q) p =
     begins-if ((f.node == s) && (t.node == d)) (sent s d p) (sent s d (q ++ p)) (record { from = f; to = t; refs = refs } ∷ []) (sent-begins s d q p)
 sent-begins s d (_ ∷ q) p = sent-begins s d q p
 
--- all that was sent goes on
-pub all_sent-begins : (q p : List Event) → Begins (all_sent p) (all_sent (q ++ p))
-all_sent-begins [] p = begins-same (all_sent p)
-all_sent-begins (Send f t refs ∷ q) p =
-    begins-more (all_sent p) (all_sent (q ++ p)) (record { from = f; to = t; refs = refs } ∷ []) (all_sent-begins q p)
-all_sent-begins (_ ∷ q) p = all_sent-begins q p
-
 pub mail-grows : (b : Actor) (w : Message → ℕ) (q p : List Event) → sum_by w (mail b p) ≤ sum_by w (mail b (q ++ p))
 mail-grows b w q p = sum_by-begins w (mail b p) (mail b (q ++ p)) (mail-begins b q p)
 
@@ -68,9 +60,6 @@ mail-grows b w q p = sum_by-begins w (mail b p) (mail b (q ++ p)) (mail-begins b
 
 pub takes-grow : (a : Actor) (q p : List Event) → takes a p ≤ takes a (q ++ p)
 takes-grow a q p = omega (arith, tally-append (is_take_by a) q p)
-
-pub gave-grows : (b a : Actor) (q p : List Event) → gave b a p ≤ gave b a (q ++ p)
-gave-grows b a q p = omega (arith, tally-append (is_drop_of b a) q p)
 
 pub gifts-grow : (cl : Cluster) (b a : Actor) (q p : List Event) → gifts cl b a p ≤ gifts cl b a (q ++ p)
 gifts-grow cl b a [] p = omega arith
@@ -100,27 +89,12 @@ carried-grows b a q p =
 pub got-grows : (cl : Cluster) (b a : Actor) (q p : List Event) → got cl b a p ≤ got cl b a (q ++ p)
 got-grows cl b a q p = omega (arith, gifts-grow cl b a q p, carried-grows b a q p)
 
-pub noted-grows : (cl : Cluster) (test : Note → Bool) (q p : List Event) → noted_sum cl test p ≤ noted_sum cl test (q ++ p)
-noted-grows cl test [] p = omega arith
-noted-grows cl test (e ∷ q) p = omega (arith, noted-grows cl test q p)
-
 -- ---- states
-
--- a test or one that passes
-or-true : (b : Bool) → (b || true) ≡ true
-or-true true = refl
-or-true false = refl
 
 -- a test that some event passed stays passed
 pub any-stays : (test : Event → Bool) (q p : List Event) → IsTrue (list_any test p) → IsTrue (list_any test (q ++ p))
 any-stays test [] p t = t
-any-stays test (e ∷ q) p t = rw (any-stays test q p t) (or-true (test e))
-
-pub admitted-stays : (s d k : ℕ) (q p : List Event) → IsTrue (was_admitted s d k p) → IsTrue (was_admitted s d k (q ++ p))
-admitted-stays s d k q p t = any-stays (is_admit s d k) q p t
-
-pub closed-stays : (s d : ℕ) (q p : List Event) → IsTrue (is_closed s d p) → IsTrue (is_closed s d (q ++ p))
-closed-stays s d q p t = any-stays (is_removal s d) q p t
+any-stays test (e ∷ q) p t = or_right (test e) (list_any test (q ++ p)) (any-stays test q p t)
 
 -- a node that is up was up before
 pub up-before : (n : ℕ) (q p : List Event) → IsTrue (is_up n (q ++ p)) → IsTrue (is_up n p)

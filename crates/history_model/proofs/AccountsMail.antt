@@ -1,7 +1,7 @@
--- Each message is admitted at most once: what was admitted to an actor, and what is open on links to it, is what was sent
--- to it.
+-- Each message is admitted at most once: what was admitted to an actor, and what is open on links to it, is what was
+-- sent to it.
 use Rattle.std.proofs.Common.{◌≡◌, ◌≢◌, ◌<◌, ◌≤◌, ◌+◌, ℕ, zero, suc, Bool, true, false, List, [], ◌∷◌, ◌++◌, length, refl, sym, ◌∙◌, ap, subst, inl, inr, arith, IsTrue, cond, filter, sum_by, slice_get, option_to_list}
-use Rattle.std.proofs.lemmas.Bool.{false≢true, cases_lt, eq-eqb, ne_eqb}
+use Rattle.std.proofs.lemmas.Bool.{false≢true, cases_lt, eq-eqb, ne_eqb, not-true}
 use Rattle.std.proofs.lemmas.List.Sums.{sum_by-append}
 use Rattle.std.specs.Prelude.{◌==◌}
 use Rattle.crgc_ids.specs.Actor.{Actor}
@@ -11,7 +11,7 @@ use Rattle.history_model.specs.Cluster.{Cluster, same_actor}
 use Rattle.history_model.specs.Messages.{Message, sent, message_at, was_admitted, admitted_by, is_to, mail}
 use Rattle.history_model.specs.Legal.{IsLegal}
 use Rattle.history_model.specs.Quiescent.{IsOnLink}
-use Rattle.history_model.proofs.Basics.{not_true, eqb-refl, same_actor-refl, same_actor-equal, legal-kept}
+use Rattle.history_model.proofs.Basics.{eqb-refl, same_actor-refl, same_actor-equal, legal-kept}
 use Rattle.history_model.proofs.Sums.{all_sent}
 use Rattle.history_model.proofs.AccountsGrowth.{sent-begins}
 use Rattle.history_model.proofs.AccountsCopies.{admitted-was_sent}
@@ -63,7 +63,7 @@ mail-and_open cl (Send f t refs ∷ p) legal b w =
 mail-and_open cl (Admit s d k ∷ p) legal b w =
     let kept = legal-kept cl (Admit s d k) p legal in
     let now = admitted_by (Admit s d k) p in
-    omega (arith, mail-and_open cl p legal.1 b w, mail-append b w p now, admission b w s d k p (not_true (s == d) kept.1.1.0))
+    omega (arith, mail-and_open cl p legal.1 b w, mail-append b w p now, admission b w s d k p (not-true (s == d) kept.1.1.0))
 mail-and_open cl (_ ∷ p) legal b w = mail-and_open cl p legal.1 b w
 
 -- what was admitted to b weighs at most what was sent to it

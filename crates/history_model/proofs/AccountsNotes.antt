@@ -1,6 +1,7 @@
--- What all notes of a history count: the messages sent to an actor, the references that it was given or sent, those that
--- it gave up, and the messages that it took.
-use Rattle.std.proofs.Common.{◌≡◌, ◌+◌, ◌&&◌, ℕ, Bool, true, false, List, [], ◌∷◌, map, refl, sym, ◌∙◌, ap, inl, inr, arith, IsTrue, cond, if◌then◌else◌, filter, sum_by}
+-- What all notes of a history count: the messages sent to an actor, the references that it was given or sent, those
+-- that it gave up, and the messages that it took.
+use Rattle.std.proofs.Common.{◌≡◌, ◌+◌, ◌&&◌, ℕ, Bool, true, false, List, [], ◌∷◌, map, refl, sym, ◌∙◌, ap, arith, IsTrue, cond, if◌then◌else◌, filter, sum_by}
+use Rattle.std.proofs.Math.Bool.{and-false}
 use Rattle.std.proofs.lemmas.List.Elements.{filter-append}
 use Rattle.std.proofs.lemmas.List.Sums.{sum_by-append}
 use Rattle.crgc_ids.specs.Actor.{Actor}
@@ -11,24 +12,10 @@ use Rattle.history_model.specs.Cluster.{Cluster, same_actor, newborn}
 use Rattle.history_model.specs.Messages.{Message, is_to, takes}
 use Rattle.history_model.specs.Facts.{Fact, created, Note, notes, note_by, is_sent_to, is_created, is_released, is_received}
 use Rattle.history_model.specs.Held.{gifts, gave, is_note_of}
-use Rattle.history_model.proofs.Basics.{and-false, same_actor-equal, same_actor-sym, tally-append}
+use Rattle.history_model.proofs.Basics.{same_actor-equal, same_actor-sym}
 use Rattle.history_model.proofs.Sums.{all_sent, noted_sum}
-use Rattle.history_model.proofs.AccountsBirths.{Each, each-notes_of_spawn}
-
--- ---- tallies
-
-module _ {A : Type 0} where
-  -- tests that agree on all members count alike
-  pub tally-agree : (test other : A → Bool) (xs : List A) → Each (λ x. test x ≡ other x) xs → tally test xs ≡ tally other xs
-  tally-agree test other [] each = refl
-  tally-agree test other (x ∷ xs) each =
-      let rest = tally-agree test other xs (λ y among. each y (inr among)) in
-      rw (each x (inl refl), rest) refl
-
-  -- a test that no member passes counts nothing
-  pub tally-none : (test : A → Bool) (xs : List A) → Each (λ x. test x ≡ false) xs → tally test xs ≡ 0
-  tally-none test [] each = refl
-  tally-none test (x ∷ xs) each = rw (each x (inl refl)) (tally-none test xs (λ y among. each y (inr among)))
+use Rattle.history_model.proofs.AccountsBirths.{each-notes_of_spawn}
+use Rattle.history_model.proofs.Lists.{tally-append, tally-same, tally-none}
 
 -- ---- what is sent
 
@@ -109,7 +96,7 @@ created-noted cl (Spawn c ∷ p) sel b a chosen =
     let test : Note → Bool = λ x. sel x.by.node && is_created b a x.fact in
     let agree = each-notes_of_spawn cl c p (λ x. test x ≡ is_note_of b a x)
     (gift-noted sel b a child child chosen) (gift-noted sel b a c child chosen) (gift-noted sel b a child c chosen) in
-    rw (tally-agree test (is_note_of b a) (notes cl (Spawn c) p) agree) (omega (arith, created-noted cl p sel b a chosen))
+    rw (tally-same test (is_note_of b a) (notes cl (Spawn c) p) agree) (omega (arith, created-noted cl p sel b a chosen))
 created-noted cl (Send f t refs ∷ p) sel b a chosen =
     let one : Message = record { from = f; to = t; refs = refs } in
     let w = carries_from sel a in

@@ -2,7 +2,7 @@
 -- count as admitted. To admit one number takes exactly its message out.
 use Rattle.std.proofs.Common.{◌≡◌, ◌+◌, ◌&&◌, ◌||◌, ℕ, zero, suc, Bool, true, false, List, [], ◌∷◌, ◌++◌, length, refl, sym, ◌∙◌, ap, subst, arith, cond, if◌then◌else◌, filter, sum_by, slice_get, option_to_list}
 use Rattle.std.proofs.Math.Dec.{eqb-zero-suc, eqb-suc-zero, eqb-suc-suc}
-use Rattle.std.proofs.lemmas.Bool.{false≢true}
+use Rattle.std.proofs.lemmas.Bool.{false≢true, and_parts, eqb-true}
 use Rattle.std.proofs.lemmas.List.Elements.{filter-append}
 use Rattle.std.proofs.lemmas.List.Sums.{sum_by-append}
 use Rattle.std.specs.Prelude.{◌==◌}
@@ -10,7 +10,7 @@ use Rattle.crgc_ids.specs.Actor.{Actor}
 use Rattle.history_model.specs.declared.events.Event.{Event}
 use Rattle.history_model.specs.declared.events.Event.TheVariants.{Send}
 use Rattle.history_model.specs.Messages.{Message, sent, message_at, is_to}
-use Rattle.history_model.proofs.Basics.{and_true, eqb-refl, eqb-equal}
+use Rattle.history_model.proofs.Basics.{eqb-refl}
 use Rattle.history_model.proofs.AccountsCopies.{same_number}
 
 -- the weight of those messages that are to b
@@ -99,12 +99,12 @@ open-admitting adm b w x y n apart is_open (Send f t refs ∷ p) =
     ≡ weigh b w (message_at x y n p) + open_part adm f.node t.node (length (sent f.node t.node p)) weight in
     let split = elim ((f.node == x) && (t.node == y)) as (λ v. ((f.node == x) && (t.node == y)) ≡ v → Step (cond v (xs ++ one ∷ []) xs)) [
       | true ↦ λ same.
-          let both = and_true (f.node == x) (t.node == y) same in
+          let both = and_parts (f.node == x) (t.node == y) same in
           let On : ℕ → ℕ → Type 0 = λ i j.
           weigh b w (option_to_list (slice_get (xs ++ one ∷ []) n)) + open_part after i j (length (sent i j p)) weight
           ≡ weigh b w (message_at x y n p) + open_part adm i j (length (sent i j p)) weight in
-          subst (λ i. On i t.node) (sym (eqb-equal f.node x both.0))
-          (subst (On x) (sym (eqb-equal t.node y both.1)) (on-link adm b w one x y n apart is_open xs))
+          subst (λ i. On i t.node) (sym (eqb-true f.node x both.0))
+          (subst (On x) (sym (eqb-true t.node y both.1)) (on-link adm b w one x y n apart is_open xs))
       | false ↦ λ other. rw (admitting-elsewhere x y n adm f.node t.node (length (sent f.node t.node p)) other) refl
     ] in
     let step : Step (cond ((f.node == x) && (t.node == y)) (xs ++ one ∷ []) xs) = split refl in

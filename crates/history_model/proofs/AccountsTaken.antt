@@ -1,6 +1,7 @@
--- No actor takes more than its mail, and none gives up more references than it got.
+-- No actor takes more than its mail, and none gives up more references than it got: so the subtractions of `waiting`
+-- and `held` are exact.
 use Rattle.std.proofs.Common.{◌≡◌, ◌<◌, ◌≤◌, ◌+◌, ◌&&◌, true, false, not, List, [], ◌∷◌, length, refl, subst, arith, cond, length-drop}
-use Rattle.std.proofs.lemmas.Bool.{false≢true, ltb-true}
+use Rattle.std.proofs.lemmas.Bool.{false≢true, ltb-true, and_parts}
 use Rattle.crgc_ids.specs.Actor.{Actor}
 use Rattle.history_model.specs.declared.events.Event.{Event}
 use Rattle.history_model.specs.declared.events.Event.TheVariants.{Take, Drop}
@@ -8,7 +9,7 @@ use Rattle.history_model.specs.Cluster.{Cluster, same_actor}
 use Rattle.history_model.specs.Messages.{mail, takes, waiting}
 use Rattle.history_model.specs.Held.{got, gave, held}
 use Rattle.history_model.specs.Legal.{IsLegal, has_nothing}
-use Rattle.history_model.proofs.Basics.{and_true, same_actor-equal, legal-kept}
+use Rattle.history_model.proofs.Basics.{same_actor-equal, legal-kept}
 use Rattle.history_model.proofs.AccountsGrowth.{length-begins, mail-begins, got-grows}
 
 -- a list that is not empty
@@ -42,7 +43,7 @@ gave-got cl (Drop x t ∷ p) legal b a =
     let before = gave-got cl p legal.1 b a in
     let split = elim (same_actor x b && same_actor t a) as (λ v. (same_actor x b && same_actor t a) ≡ v → cond v (gave b a p + 1) (gave b a p) ≤ got cl b a p) [
       | true ↦ λ same.
-          let both = and_true (same_actor x b) (same_actor t a) same in
+          let both = and_parts (same_actor x b) (same_actor t a) same in
           let owner = subst (λ c. gave c t p < got cl c t p) (same_actor-equal x b both.0) left in
           let target = subst (λ c. gave b c p < got cl b c p) (same_actor-equal t a both.1) owner in
           omega arith

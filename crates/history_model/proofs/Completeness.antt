@@ -1,7 +1,7 @@
 -- At a quiet point of m, every quiescent actor of m is dead in what is folded at m: the members of a quiet set on nodes
 -- that are up are no pseudoroots, and who has a positive edge to one holds it.
 use Rattle.std.proofs.Common.{◌≡◌, ◌<◌, ◌+◌, ◌&&◌, ℕ, Bool, true, false, not, List, [], ◌∷◌, refl, sym, ◌∙◌, ap, subst, inl, inr, arith, IsTrue, filter, sum_by, Some, unwrap_or}
-use Rattle.std.proofs.lemmas.Bool.{cases_lt, cond_both, or_from}
+use Rattle.std.proofs.lemmas.Bool.{cases_lt, cond_both, or_from, and_parts, not-true, not-false}
 use Rattle.std.proofs.lemmas.Bool.Decides.{Decides-eqb, Decides-ltb}
 use Rattle.crgc_ids.specs.Actor.{Actor}
 use Rattle.crgc_ids.specs.Members.{IsAmong}
@@ -17,12 +17,11 @@ use Rattle.history_model.specs.Graph.{delta_facts, received_count, told_count, c
 use Rattle.history_model.specs.Sweeps.{dead_at}
 use Rattle.history_model.specs.Legal.{IsLegal}
 use Rattle.history_model.specs.Quiescent.{IsQuietPoint, IsQuietSet, IsQuiescent}
-use Rattle.history_model.proofs.Basics.{and_true, not_true}
 use Rattle.history_model.proofs.Sums.{all_sent, noted_sum, told_cut, told_sum}
 use Rattle.history_model.proofs.AccountsBirths.{born-on_node, noted-born, sent-born}
 use Rattle.history_model.proofs.AccountsNotes.{received-noted, released-noted}
 use Rattle.history_model.proofs.FoldSumsCounts.{created-told, received-told, released-told, sent-told}
-use Rattle.history_model.proofs.FoldSumsDead.{IsCandidate, dead-greatest, not_false}
+use Rattle.history_model.proofs.FoldSumsDead.{IsCandidate, dead-greatest}
 use Rattle.history_model.proofs.FoldSumsKnown.{created-names, delta-notice, known-named}
 use Rattle.history_model.proofs.FoldSumsNotes.{noter-received, noter-released, told-noted}
 use Rattle.history_model.proofs.FoldSumsStreams.{own-flags}
@@ -57,7 +56,7 @@ last_flags-named a (_ ∷ xs) g e =
 module _ (cl : Cluster) (m : ℕ) (h : List Event) (legal : IsLegal cl h) (here : m < cl.nodes) (quiet : IsQuietPoint cl m h) where
   -- a node of the cluster that is not lost is up
   not_lost-up : (n : ℕ) → n < cl.nodes → lost_at cl m h n ≡ false → IsTrue (is_up n h)
-  not_lost-up n below out = not_false (is_up n h) (sym (quiet-lost cl m h legal here quiet n below) ∙ out)
+  not_lost-up n below out = not-false (is_up n h) (sym (quiet-lost cl m h legal here quiet n below) ∙ out)
 
   up-not_lost : (n : ℕ) → n < cl.nodes → IsTrue (is_up n h) → lost_at cl m h n ≡ false
   up-not_lost n below up = quiet-lost cl m h legal here quiet n below ∙ ap not up
@@ -70,7 +69,7 @@ module _ (cl : Cluster) (m : ℕ) (h : List Event) (legal : IsLegal cl h) (here 
       → told_sum cl (told_cut cl (cut_at cl m h) h) (λ x. not (lost_at cl m h x.by.node) && t x) h ≡ noted_sum cl (λ x. not (lost_at cl m h x.by.node) && t x) h
   outside-told t =
       quiet-told cl m h legal quiet (λ x. not (lost_at cl m h x.by.node) && t x)
-      (λ e p x among pass born. not_lost-up x.by.node (born-on_node cl h legal x.by born) (not_true (lost_at cl m h x.by.node) (and_true (not (lost_at cl m h x.by.node)) (t x) pass).0))
+      (λ e p x among pass born. not_lost-up x.by.node (born-on_node cl h legal x.by born) (not-true (lost_at cl m h x.by.node) (and_parts (not (lost_at cl m h x.by.node)) (t x) pass).0))
 
   received-all : (a : Actor) → IsTrue (is_up a.node h) → received_count cl (folded cl m h) a ≡ takes a h
   received-all a up =
@@ -113,7 +112,7 @@ module _ (cl : Cluster) (m : ℕ) (h : List Event) (legal : IsLegal cl h) (here 
             let counted = created-told cl h (cut_at cl m h) lost b a legal in
             let noted = told-noted cl (told_cut cl (cut_at cl m h) h) test h in
             let found = noted-born cl h legal test (omega (arith, more, none, counted, noted)) in
-            let created_b = (and_true (not (lost found.0.by.node)) (is_created b a found.0.fact) found.1).1 in
+            let created_b = (and_parts (not (lost found.0.by.node)) (is_created b a found.0.fact) found.1).1 in
             born-on_node cl h legal b (found.2.1 b (created-names b a found.0.fact created_b).0))
       ]
 
@@ -174,6 +173,8 @@ module _ (cl : Cluster) (m : ℕ) (h : List Event) (legal : IsLegal cl h) (here 
       IsAmong-filter is_here b q owner.0 owner.1))
       a (IsAmong-filter is_here a q quiescent.1 up)
 
-  -- and so are those of m
-  pub completeness : (a : Actor) → a.node ≡ m → IsQuiescent cl h a → IsAmong a (dead_at cl m h)
-  completeness a on = completeness-up a (subst (λ n. IsTrue (is_up n h)) (sym on) quiet.up)
+-- and so are those of m
+pub completeness : (cl : Cluster) (m : ℕ) (h : List Event) (a : Actor) → IsLegal cl h → IsQuietPoint cl m h → a.node ≡ m → IsQuiescent cl h a → IsAmong a (dead_at cl m h)
+completeness cl m h a legal quiet on quiescent =
+    let here = subst (λ n. n < cl.nodes) on (born-on_node cl h legal a (quiescent.2.born a quiescent.1)) in
+    completeness-up cl m h legal here quiet a (subst (λ n. IsTrue (is_up n h)) (sym on) quiet.up) quiescent

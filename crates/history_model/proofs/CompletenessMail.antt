@@ -1,6 +1,7 @@
--- At a quiet point all that actors on nodes that are up sent was admitted, but for live messages; and what mail counts.
-use Rattle.std.proofs.Common.{◌≡◌, ◌≢◌, ◌<◌, ◌≤◌, ◌+◌, ℕ, zero, suc, Bool, true, false, not, List, [], ◌∷◌, length, drop, refl, sym, ◌∙◌, ap, subst, inl, inr, arith, IsTrue, IsFalse, cond, filter, sum_by, slice_get, option_to_list, take-append-drop}
-use Rattle.std.proofs.lemmas.Bool.{false≢true, false_from_ne_true, true_from_ne_false}
+-- At a quiet point all that actors on nodes that are up sent was admitted, but for live messages. So what quiescent
+-- actors took, and what their holders got, is all that was told or admitted for them.
+use Rattle.std.proofs.Common.{◌≡◌, ◌≢◌, ◌<◌, ◌≤◌, ◌+◌, ℕ, zero, suc, Bool, true, false, not, List, [], ◌∷◌, length, drop, refl, sym, ◌∙◌, ap, subst, inl, inr, arith, IsTrue, IsFalse, cond, filter, sum_by, take-append-drop}
+use Rattle.std.proofs.lemmas.Bool.{false≢true, false_from_ne_true, true_from_ne_false, not-true}
 use Rattle.crgc_ids.specs.Actor.{Actor}
 use Rattle.crgc_ids.specs.Members.{IsAmong}
 use Rattle.history_model.specs.declared.events.Event.{Event}
@@ -11,9 +12,8 @@ use Rattle.history_model.specs.Held.{carried}
 use Rattle.history_model.specs.State.{is_up}
 use Rattle.history_model.specs.Legal.{IsLegal}
 use Rattle.history_model.specs.Quiescent.{IsOnLink, IsLive, IsQuietPoint}
-use Rattle.history_model.proofs.Basics.{not_true}
 use Rattle.history_model.proofs.Sums.{all_sent}
-use Rattle.history_model.proofs.AccountsBirths.{mail-among, message_at-among, sent-among, waiting-among}
+use Rattle.history_model.proofs.AccountsBirths.{message_at-among, sent-among}
 use Rattle.history_model.proofs.AccountsGrowth.{carried-append}
 use Rattle.history_model.proofs.AccountsMail.{mail-all}
 use Rattle.history_model.proofs.AccountsNotes.{carries_from}
@@ -22,13 +22,11 @@ use Rattle.history_model.proofs.LinksSettled.{closed-crashed}
 use Rattle.history_model.proofs.SoundnessBounds.{carried-split, carries_other, counts_other, mail-split}
 use Rattle.history_model.proofs.SoundnessTold.{counts_lost}
 use Rattle.history_model.proofs.StabilityHeld.{tally-absent}
+use Rattle.history_model.proofs.States.{waiting-live}
+use Rattle.history_model.proofs.Lists.{place-within}
+use Rattle.history_model.proofs.LinksMail.{cond_none}
 
 -- ---- what lists count
-
-place-within : {A : Type 0} (xs : List A) (k : ℕ) (x : A) → option_to_list (slice_get xs k) ≡ x ∷ [] → k < length xs
-place-within [] k x e = absurd (cc)
-place-within (y ∷ ys) zero x e = omega arith
-place-within (y ∷ ys) (suc k) x e = let later = place-within ys k x e in omega arith
 
 drop-all : {A : Type 0} (n : ℕ) (xs : List A) → ((x : A) → ¬ IsAmong x (drop n xs)) → length xs ≤ n
 drop-all n [] none = omega arith
@@ -69,25 +67,13 @@ some_chosen : (v : Bool) (n : ℕ) → 0 < cond v n 0 → v ≡ true
 some_chosen true n some = refl
 some_chosen false n some = absurd (omega arith)
 
-none_chosen : (v : Bool) (n : ℕ) → n ≡ 0 → cond v n 0 ≡ 0
-none_chosen true n e = e
-none_chosen false n e = refl
-
--- what waits for an actor on a node that is up is live
-waiting-live : (h : List Event) (b : Actor) → IsTrue (is_up b.node h) → (x : Message) → IsAmong x (waiting b h) → IsLive h x × (x.to ≡ b)
-waiting-live h b up x waits =
-    let to = (mail-among b h x (waiting-among b h x waits)).1 in
-    let Waits : Actor → Type 0 = λ a. IsTrue (is_up a.node h) × IsAmong x (waiting a h) in
-    let there = subst Waits (sym to) (up, waits) in
-    ((there.0, inl there.1), to)
-
 -- where no message for a is live, a took as many as nodes that are up sent to it and as it admitted from others
 pub quiet-takes : (cl : Cluster) (m : ℕ) (h : List Event) → IsLegal cl h → IsQuietPoint cl m h → (lost : ℕ → Bool)
     → ((x : Message) → IsAmong x (all_sent h) → lost x.from.node ≡ false → IsTrue (is_up x.from.node h))
     → (a : Actor) → IsTrue (is_up a.node h) → ((x : Message) → IsLive h x → x.to ≡ a → ⊥) → takes a h ≡ sum_by (counts_other lost) (filter (is_to a) (all_sent h)) + sum_by (counts_lost lost) (mail a h)
 quiet-takes cl m h legal quiet lost senders a up none =
     let from_up : (x : Message) → IsAmong x (all_sent h) → 0 < counts_other lost x → IsTrue (is_up x.from.node h) = λ x among some.
-    senders x among (not_true (lost x.from.node) (some_chosen (not (lost x.from.node)) 1 some)) in
+    senders x among (not-true (lost x.from.node) (some_chosen (not (lost x.from.node)) 1 some)) in
     let all = quiet-mail cl m h legal quiet a up (counts_other lost) from_up (λ x live to. absurd (none x live to)) in
     let split = mail-split lost (mail a h) in
     let most = takes-mail cl h legal a in
@@ -101,9 +87,9 @@ pub quiet-carried : (cl : Cluster) (m : ℕ) (h : List Event) → IsLegal cl h �
     → (b a : Actor) → IsTrue (is_up b.node h) → ((x : Message) → IsLive h x → ¬ IsAmong a x.refs) → carried a (taken b h) ≡ sum_by (carries_other lost a) (filter (is_to b) (all_sent h)) + sum_by (carries_from lost a) (mail b h)
 quiet-carried cl m h legal quiet lost senders b a up none =
     let from_up : (x : Message) → IsAmong x (all_sent h) → 0 < carries_other lost a x → IsTrue (is_up x.from.node h) = λ x among some.
-    senders x among (not_true (lost x.from.node) (some_chosen (not (lost x.from.node)) (tally (same_actor a) x.refs) some)) in
+    senders x among (not-true (lost x.from.node) (some_chosen (not (lost x.from.node)) (tally (same_actor a) x.refs) some)) in
     let nothing : (x : Message) → IsLive h x → x.to ≡ b → carries_other lost a x ≡ 0 = λ x live _.
-    none_chosen (not (lost x.from.node)) (tally (same_actor a) x.refs) (tally-absent a x.refs (none x live)) in
+    cond_none (not (lost x.from.node)) (tally (same_actor a) x.refs) (tally-absent a x.refs (none x live)) in
     let all = quiet-mail cl m h legal quiet b up (carries_other lost a) from_up nothing in
     let split = carried-split lost a (mail b h) in
     let parts = ap (carried a) (sym (take-append-drop (takes b h) (mail b h))) ∙ carried-append a (taken b h) (waiting b h) in

@@ -1,6 +1,7 @@
--- At a quiet point all that the actors of the nodes that are up have noted is told, and so are their flags.
+-- At a quiet point all that the actors of the nodes that are up have noted is told, and so are their flags. So the
+-- counts of what is folded there are counts of the history.
 use Rattle.std.proofs.Common.{◌≡◌, ◌<◌, ◌≤◌, ◌&&◌, ◌==◌, ℕ, Bool, true, false, not, List, [], ◌∷◌, ◌++◌, length, refl, sym, ◌∙◌, ap, subst, inl, inr, arith, IsTrue, cond, nat_lt, Option, Some, None, append_assoc, le_of_eq, length-append}
-use Rattle.std.proofs.lemmas.Bool.{cond_both, false≢true, or_parts}
+use Rattle.std.proofs.lemmas.Bool.{cond_both, false≢true, or_parts, and_parts, cases_Bool, not-false}
 use Rattle.std.proofs.lemmas.Bool.Decides.{Decides-ltb}
 use Rattle.std.specs.Bool.{beq}
 use Rattle.crgc_ids.specs.Actor.{Actor}
@@ -14,13 +15,12 @@ use Rattle.history_model.specs.Streams.{delta, window_of, final_of, facts_by, lo
 use Rattle.history_model.specs.Folds.{cut_at}
 use Rattle.history_model.specs.Legal.{IsLegal}
 use Rattle.history_model.specs.Quiescent.{IsQuietPoint}
-use Rattle.history_model.proofs.Basics.{and_true, legal-before, same_actor-refl, true_or_false}
+use Rattle.history_model.proofs.Basics.{legal-before, same_actor-refl}
 use Rattle.history_model.proofs.Sums.{noted_sum, told_sum, publish_cut, flags_cut, told_cut}
 use Rattle.history_model.proofs.AccountsBirths.{born-grows, born-on_node, notes-born}
 use Rattle.history_model.proofs.FoldSumsCuts.{flush_cut-last, is_flush_of, last_flush, last_flush-here, last_flush-other}
 use Rattle.history_model.proofs.FoldSumsLogs.{log-flushed, log-next}
 use Rattle.history_model.proofs.FoldSumsNotes.{told-next}
-use Rattle.history_model.proofs.FoldSumsDead.{not_false}
 
 -- ---- flushes below a position
 
@@ -60,7 +60,7 @@ flushes-published cl a n (Flush b ∷ p) all empty =
       | false ↦ λ e. (refl, e)
     ] in
     let apart = left empty in
-    (λ same. absurd (false≢true (sym apart.0 ∙ (and_true (b.node == a.node) (b.serial == a.serial) same).0)), flushes-published cl a n p all apart.1)
+    (λ same. absurd (false≢true (sym apart.0 ∙ (and_parts (b.node == a.node) (b.serial == a.serial) same).0)), flushes-published cl a n p all apart.1)
 flushes-published cl a n (Publish m ∷ p) all empty =
     let s = stream cl a.node p in
     let At : Bool → Type 0 = λ v.
@@ -103,7 +103,7 @@ facts_by-some a x before (n ∷ ns) (inr later) by empty =
 -- what an event notes in a's log does not leave the log blank
 noted-log : (cl : Cluster) (a : Actor) (e : Event) (p : List Event) (x : Note) → IsAmong x (notes cl e p) → x.by ≡ a → log cl a (e ∷ p) ≡ [] → ⊥
 noted-log cl a e p x among by blank =
-    elim (true_or_false (is_flush_of a e)) [
+    elim (cases_Bool (is_flush_of a e)) [
       | inl flush ↦ subst (IsAmong x) (log-flushed cl a e p flush).1 among
       | inr other ↦ facts_by-some a x (log cl a p) (notes cl e p) among by (sym (log-next cl a e p other) ∙ blank)
     ]
@@ -116,7 +116,7 @@ noted-flushed cl a t [] e p x below blank among by = absurd (noted-log cl a e p 
 noted-flushed cl a t (f ∷ q) e p x below blank among by =
     let r = q ++ e ∷ p in
     let longer : length p < length r = omega (arith, length-append q (e ∷ p)) in
-    elim (true_or_false (is_flush_of a f)) [
+    elim (cases_Bool (is_flush_of a f)) [
       | inl flush ↦ subst (λ n. length p < n) (sym (last_flush-here 0 length a t f r flush (below.0 flush))) longer
       | inr other ↦ (
           let before = append-empty (log cl a r) (facts_by a (notes cl f r)) (sym (log-next cl a f r other) ∙ blank) in
@@ -142,7 +142,7 @@ as_flushed : (found : Option Flags) (now : Flags) → are_flags found now ≡ tr
     → (g : Flags) × (found ≡ Some g) × (g.busy ≡ now.busy) × (g.root ≡ now.root)
 as_flushed None now same = absurd (false≢true same)
 as_flushed (Some g) now same =
-    let both = and_true (beq g.busy now.busy) (beq g.root now.root) same in
+    let both = and_parts (beq g.busy now.busy) (beq g.root now.root) same in
     (g, refl, beq-equal g.busy now.busy both.0, beq-equal g.root now.root both.1)
   where
     beq-equal : (x y : Bool) → beq x y ≡ true → x ≡ y
@@ -163,8 +163,8 @@ quiet-actor cl m h legal quiet a born up =
     let told = or_parts (not (is_blank (log cl a h))) (not (are_flags (flushed_flags a h) (flags_at a h))) (quiet.flushed a born up) in
     let all : length (stream cl a.node h) ≤ cut_at cl m h a.node = le_of_eq (sym (quiet.folded a.node (born-on_node cl h legal a born) up)) in
     record {
-      blank = blank-empty (log cl a h) (not_false (is_blank (log cl a h)) told.0);
-      flags = not_false (are_flags (flushed_flags a h) (flags_at a h)) told.1;
+      blank = blank-empty (log cl a h) (not-false (is_blank (log cl a h)) told.0);
+      flags = not-false (are_flags (flushed_flags a h) (flags_at a h)) told.1;
       flushes = flushes-published cl a (cut_at cl m h a.node) h all (quiet.published a.node up);
     }
 

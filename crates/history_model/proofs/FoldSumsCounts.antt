@@ -1,6 +1,7 @@
--- The counts of a fold of a legal history are sums of the notes below the cuts.
+-- The counts of a fold of a legal history are sums of the notes below the cuts. From here on soundness speaks of cuts
+-- alone, and no more of flushes, publishes and streams.
 use Rattle.std.proofs.Common.{◌≡◌, ◌≤◌, ◌+◌, ◌&&◌, ◌||◌, ℕ, zero, suc, Bool, true, false, cond, not, List, [], ◌∷◌, length, refl, sym, ◌∙◌, ap, inl, inr, arith}
-use Rattle.std.proofs.lemmas.Bool.{and_right, cases_lt, false_from_ne_true, le-ltb, ltb-true}
+use Rattle.std.proofs.lemmas.Bool.{and_right, cases_lt, false_from_ne_true, le-ltb, ltb-true, cases_Bool, eqb-true}
 use Rattle.std.specs.List.{flat_map, range_with_len}
 use Rattle.std.specs.Prelude.{◌==◌, nat_lt}
 use Rattle.crgc_ids.specs.Actor.{Actor}
@@ -16,11 +17,12 @@ use Rattle.history_model.specs.Folds.{fold_to}
 use Rattle.history_model.specs.Graph.{received_count, told_count, created_count, released_count, delta_facts, told_facts}
 use Rattle.history_model.specs.Legal.{IsLegal}
 use Rattle.history_model.specs.Streams.{stream}
-use Rattle.history_model.proofs.Basics.{eqb-equal, legal-kept, tally-append, true_or_false}
+use Rattle.history_model.proofs.Basics.{legal-kept}
 use Rattle.history_model.proofs.Sums.{flush_cut, publish_cut, told_cut, told_sum}
 use Rattle.history_model.proofs.FoldSumsNotes.{told-none, told-same}
 use Rattle.history_model.proofs.FoldSumsCuts.{flush_cut-below}
 use Rattle.history_model.proofs.FoldSumsStreams.{deltas-told}
+use Rattle.history_model.proofs.Lists.{tally-append}
 
 -- ---- nodes outside the cluster publish nothing
 
@@ -29,8 +31,8 @@ publish_cut-outside cl o n [] legal l = refl
 publish_cut-outside cl o n (Publish m ∷ p) legal l =
     let inside = ltb-true m cl.nodes (legal-kept cl (Publish m) p legal).0 in
     let before = publish_cut-outside cl o n p legal.1 l in
-    elim (true_or_false (m == o)) [
-      | inl same ↦ (let e = eqb-equal m o same in absurd (omega arith))
+    elim (cases_Bool (m == o)) [
+      | inl same ↦ (let e = eqb-true m o same in absurd (omega arith))
       | inr other ↦ ap (λ v. cond (v && nat_lt (length (stream cl o p)) n) (length p) (publish_cut cl o n p)) other ∙ before
     ]
 publish_cut-outside cl o n (e ∷ p) legal l = publish_cut-outside cl o n p legal.1 l
@@ -80,7 +82,7 @@ apart : (a n k : ℕ) → (k == a) ≡ true → has_node (range_with_len (a + 1)
 apart a n k same =
     false_from_ne_true (has_node (range_with_len (a + 1) n) k) (λ later.
     let above = IsAmong-from_range k (a + 1) n (has_node-from_true (range_with_len (a + 1) n) k later) in
-    let first = eqb-equal k a same in
+    let first = eqb-true k a same in
     absurd (omega arith))
 
 module _ (cl : Cluster) (u : Actor → ℕ) (h : List Event) (t : Fact → Bool) (s : Note → Bool) (pieces : ℕ → List Fact) where
@@ -113,8 +115,8 @@ module _ (cl : Cluster) (h : List Event) (c : ℕ → ℕ) (lost : ℕ → Bool)
   piece-lost : (o : ℕ) → lost o ≡ true → tally t (piece o) ≡ told_sum cl (told_cut cl c h) (λ x. (x.by.node == o) && counts x) h
   piece-lost o gone =
       let none : (x : Note) → ((x.by.node == o) && counts x) ≡ false = λ x.
-      elim (true_or_false (x.by.node == o)) [
-        | inl on ↦ and_right (x.by.node == o) (counts x) (ap (λ v. not v && t x.fact) (ap lost (eqb-equal x.by.node o on) ∙ gone))
+      elim (cases_Bool (x.by.node == o)) [
+        | inl on ↦ and_right (x.by.node == o) (counts x) (ap (λ v. not v && t x.fact) (ap lost (eqb-true x.by.node o on) ∙ gone))
         | inr off ↦ ap (λ v. v && counts x) off
       ] in
       ap (λ v. tally t (cond v [] (delta_facts (fold_to cl c h o)))) gone
@@ -123,9 +125,9 @@ module _ (cl : Cluster) (h : List Event) (c : ℕ → ℕ) (lost : ℕ → Bool)
   -- of an actor of node o, o's cut is its own
   same-cut : (o k : ℕ) (x : Note) → lost o ≡ false → (nat_lt k (flush_cut x.by (publish_cut cl o (c o) h) h) && ((x.by.node == o) && t x.fact)) ≡ (nat_lt k (told_cut cl c h x.by) && ((x.by.node == o) && counts x))
   same-cut o k x out =
-      elim (true_or_false (x.by.node == o)) [
+      elim (cases_Bool (x.by.node == o)) [
         | inl on ↦ (
-            let node = eqb-equal x.by.node o on in
+            let node = eqb-true x.by.node o on in
             ap (λ n. nat_lt k (flush_cut x.by (publish_cut cl n (c n) h) h) && ((x.by.node == o) && t x.fact)) (sym node)
             ∙ ap (λ v. nat_lt k (told_cut cl c h x.by) && ((x.by.node == o) && (not v && t x.fact))) (sym (ap lost node ∙ out))
             )
@@ -136,7 +138,7 @@ module _ (cl : Cluster) (h : List Event) (c : ℕ → ℕ) (lost : ℕ → Bool)
 
   piece-told : ((a : Actor) (g : Flags) → t (flagged a g) ≡ false) → IsEach cl (told_cut cl c h) h t counts piece
   piece-told plain o =
-      elim (true_or_false (lost o)) [
+      elim (cases_Bool (lost o)) [
         | inl gone ↦ piece-lost o gone
         | inr out ↦
             ap (λ v. tally t (cond v [] (delta_facts (fold_to cl c h o)))) out ∙ deltas-told cl h o (c o) t plain

@@ -1,6 +1,7 @@
--- Cuts: where the last flush before a position lies, and the flags there. Both are one recursion, `last_flush`.
+-- Cuts: where the last flush before a position lies, and the flags there. Both are one recursion, `last_flush`, whose
+-- laws the files on logs, flags and streams share.
 use Rattle.std.proofs.Common.{◌≡◌, ◌<◌, ◌≤◌, ◌&&◌, ℕ, suc, Bool, true, false, cond, List, [], ◌∷◌, ◌++◌, length, refl, sym, ◌∙◌, ap, subst, inl, inr, arith}
-use Rattle.std.proofs.lemmas.Bool.{and_right, false≢true, le-ltb, lt-ltb, ltb-true}
+use Rattle.std.proofs.lemmas.Bool.{and_right, false≢true, le-ltb, lt-ltb, ltb-true, and_parts, cases_Bool}
 use Rattle.std.specs.Prelude.{◌==◌, nat_lt, Option, Some, None}
 use Rattle.crgc_ids.specs.Actor.{Actor}
 use Rattle.history_model.specs.declared.events.Event.{Event}
@@ -8,7 +9,7 @@ use Rattle.history_model.specs.declared.events.Event.TheVariants.{Flush, Publish
 use Rattle.history_model.specs.Cluster.{Cluster, same_actor}
 use Rattle.history_model.specs.Facts.{Flags}
 use Rattle.history_model.specs.Streams.{flags_at, stream}
-use Rattle.history_model.proofs.Basics.{and_true, same_actor-equal, true_or_false}
+use Rattle.history_model.proofs.Basics.{same_actor-equal}
 use Rattle.history_model.proofs.Sums.{publish_cut, flush_cut, flags_cut}
 
 -- ---- the last flush before a position
@@ -29,7 +30,7 @@ flush-on a o e f t = absurd (false≢true f)
 -- an event that is no flush on a's node is none of a
 pub flush-elsewhere : (a : Actor) (o : ℕ) (e : Event) → (a.node == o) ≡ true → is_flush_on o e ≡ false → is_flush_of a e ≡ false
 flush-elsewhere a o e t f =
-    elim (true_or_false (is_flush_of a e)) [ inl flush ↦ absurd (false≢true (sym f ∙ flush-on a o e flush t)) | inr none ↦ none ]
+    elim (cases_Bool (is_flush_of a e)) [ inl flush ↦ absurd (false≢true (sym f ∙ flush-on a o e flush t)) | inr none ↦ none ]
 
 -- what `get` says of the history before the last flush of a before position t, or else `none`
 abbrev pub last_flush : {X : Type 0} → X → (List Event → X) → Actor → ℕ → List Event → X
@@ -95,7 +96,7 @@ flush-here a t b p g before =
     let Here : Bool → Type 0 = λ v. (same_actor b a && nat_lt (length p) t) ≡ v → cond v (Some (flags_at a p)) (flags_cut a t p) ≡ Some g → IsFlushAt a t (Flush b ∷ p) (cond v (length p) (flush_cut a t p)) g in
     let here : Here (same_actor b a && nat_lt (length p) t) = elim (same_actor b a && nat_lt (length p) t) as Here [
       | true ↦ λ tests e. (
-          let both = and_true (same_actor b a) (nat_lt (length p) t) tests in
+          let both = and_parts (same_actor b a) (nat_lt (length p) t) tests in
           ([], p, ap (λ c. Flush c ∷ p) (same_actor-equal b a both.0), refl, ltb-true (length p) t both.1, (cc))
           )
       | false ↦ λ _ e. (let found = before e in (Flush b ∷ found.0, found.1, ap (λ l. Flush b ∷ l) found.2, found.3, found.4, found.5))
@@ -109,17 +110,6 @@ flags-at-cut a t (Flush b ∷ p) g e = flush-here a t b p g (flags-at-cut a t p 
 flags-at-cut a t (e ∷ p) g s =
     let found = flags-at-cut a t p g s in
     (e ∷ found.0, found.1, ap (λ l. e ∷ l) found.2, found.3, found.4, found.5)
-
--- an actor that was not flushed has told nothing
-pub flags-none : (a : Actor) (t : ℕ) (h : List Event) → flags_cut a t h ≡ None → flush_cut a t h ≡ 0
-flags-none a t [] e = refl
-flags-none a t (Flush b ∷ p) e =
-    let before = flags-none a t p in
-    (elim (same_actor b a && nat_lt (length p) t) as (λ v. cond v (Some (flags_at a p)) (flags_cut a t p) ≡ None → cond v (length p) (flush_cut a t p) ≡ 0) [
-      | true ↦ λ s. absurd (cc)
-      | false ↦ before
-    ]) e
-flags-none a t (e ∷ p) s = flags-none a t p s
 
 -- ---- cuts lie within the history
 
@@ -146,7 +136,7 @@ flush_cut-below a t [] = omega arith
 flush_cut-below a t (Flush b ∷ p) =
     let Low : Bool → Type 0 = λ v. (same_actor b a && nat_lt (length p) t) ≡ v → cond v (length p) (flush_cut a t p) ≤ t in
     let low : Low (same_actor b a && nat_lt (length p) t) = elim (same_actor b a && nat_lt (length p) t) as Low [
-      | true ↦ λ e. (let less = ltb-true (length p) t (and_true (same_actor b a) (nat_lt (length p) t) e).1 in omega arith)
+      | true ↦ λ e. (let less = ltb-true (length p) t (and_parts (same_actor b a) (nat_lt (length p) t) e).1 in omega arith)
       | false ↦ λ _. flush_cut-below a t p
     ] in
     low refl

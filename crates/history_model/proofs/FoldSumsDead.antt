@@ -1,7 +1,7 @@
 -- The dead of a fold: what holds of each, that they are closed under positive edges from outside the lost nodes, and
 -- that they are the greatest such set.
 use Rattle.std.proofs.Common.{◌≡◌, ◌+◌, ◌&&◌, ◌||◌, ℕ, Bool, true, false, not, List, refl, sym, ap}
-use Rattle.std.proofs.lemmas.Bool.{and_from, eqb-true, false≢true, or_parts}
+use Rattle.std.proofs.lemmas.Bool.{and_from, eqb-true, false≢true, or_parts, and_parts, not-true, not-false}
 use Rattle.std.specs.Prelude.{Option, Some, None}
 use Rattle.crgc_ids.specs.Actor.{Actor}
 use Rattle.crgc_ids.specs.Greatest.{IsMonotone}
@@ -12,14 +12,8 @@ use Rattle.history_model.specs.Cluster.{Cluster}
 use Rattle.history_model.specs.Facts.{Flags}
 use Rattle.history_model.specs.Folds.{Fold}
 use Rattle.history_model.specs.Graph.{admitted_count, candidates, dead, has_edge, holds_actor, is_balanced, is_pseudoroot, is_unreached, known_actors, may_act, own_flags, received_count, told_count}
-use Rattle.history_model.proofs.Basics.{and_true, not_true}
 use Rattle.history_model.proofs.FoldSumsKnown.{edge-known, holds-among}
-
--- ---- tests
-
-pub not_false : (a : Bool) → not a ≡ false → a ≡ true
-not_false true e = refl
-not_false false e = absurd (false≢true (sym e))
+use Rattle.history_model.specs.Sweeps.{stop_of}
 
 -- ---- candidates
 
@@ -34,8 +28,8 @@ AreCandidates cl lost f xs = (a : Actor) → IsAmong a xs → IsCandidate cl los
 pub candidate-from : (cl : Cluster) (lost : ℕ → Bool) (f : Fold) (a : Actor) → IsAmong a (candidates cl lost f) → IsCandidate cl lost f a
 candidate-from cl lost f a h =
     let kept = IsAmong-from_filter (λ b. not (lost b.node) && not (is_pseudoroot cl lost f b)) a (known_actors cl f) h in
-    let both = and_true (not (lost a.node)) (not (is_pseudoroot cl lost f a)) kept.1 in
-    (kept.0, not_true (lost a.node) both.0, not_true (is_pseudoroot cl lost f a) both.1)
+    let both = and_parts (not (lost a.node)) (not (is_pseudoroot cl lost f a)) kept.1 in
+    (kept.0, not-true (lost a.node) both.0, not-true (is_pseudoroot cl lost f a) both.1)
 
 pub candidate-among : (cl : Cluster) (lost : ℕ → Bool) (f : Fold) (a : Actor) → IsCandidate cl lost f a → IsAmong a (candidates cl lost f)
 candidate-among cl lost f a c =
@@ -66,7 +60,7 @@ dead-member cl lost f a h =
       known = c.0;
       not_lost = c.1;
       flags = quiet-flags (own_flags f a) tests.0;
-      balanced = eqb-true (received_count cl f a) (told_count cl lost f a + admitted_count cl lost f a) (not_false (is_balanced cl lost f a) tests.1);
+      balanced = eqb-true (received_count cl f a) (told_count cl lost f a + admitted_count cl lost f a) (not-false (is_balanced cl lost f a) tests.1);
     }
 
 -- ---- closed lists
@@ -110,6 +104,13 @@ pub dead-closed : (cl : Cluster) (lost : ℕ → Bool) (f : Fold) → AreClosed 
 unfolding dead
 dead-closed cl lost f b a h edge out =
     unreached-closed cl lost f (dead cl lost f) a (greatest-fit (is_unreached cl lost f) (candidates cl lost f) a h) b edge out
+
+-- so the owners of a dead actor are dead
+pub dead-owners : (cl : Cluster) (lost : ℕ → Bool) (f : Fold) (a b : Actor) → IsAmong a (dead cl lost f) → IsAmong b (stop_of cl lost f a).owners → IsAmong b (dead cl lost f)
+dead-owners cl lost f a b h owner =
+    let kept = IsAmong-from_filter (λ c. not (lost c.node) && has_edge cl lost f c a) b (known_actors cl f) owner in
+    let both = and_parts (not (lost b.node)) (has_edge cl lost f b a) kept.1 in
+    dead-closed cl lost f b a h both.1 (not-true (lost b.node) both.0)
 
 -- each closed list of candidates lies within the dead
 pub dead-greatest : (cl : Cluster) (lost : ℕ → Bool) (f : Fold) (xs : List Actor) → AreCandidates cl lost f xs → AreClosed cl lost f xs → IsPart xs (dead cl lost f)

@@ -1,5 +1,7 @@
--- The last flags of an actor in logs and entries.
+-- The last flags of an actor in logs and entries: `FoldSumsStreams` uses this where a flush moves its flags into an
+-- entry.
 use Rattle.std.proofs.Common.{◌≡◌, suc, Bool, true, false, cond, List, [], ◌∷◌, ◌++◌, length, refl, sym, ◌∙◌, ap, inl, inr, arith}
+use Rattle.std.proofs.lemmas.Bool.{cases_Bool}
 use Rattle.std.specs.Prelude.{Option, Some, None, unwrap_or}
 use Rattle.crgc_ids.specs.Actor.{Actor}
 use Rattle.crgc_ids.specs.Members.{IsAmong}
@@ -9,7 +11,7 @@ use Rattle.history_model.specs.Cluster.{Cluster, same_actor}
 use Rattle.history_model.specs.Facts.{Flags, Fact, flagged, is_flagged, Note, notes}
 use Rattle.history_model.specs.Streams.{entry, facts_by, flags_at, log}
 use Rattle.history_model.specs.Graph.{last_flags}
-use Rattle.history_model.proofs.Basics.{same_actor-equal, true_or_false}
+use Rattle.history_model.proofs.Basics.{same_actor-equal}
 use Rattle.history_model.proofs.FoldSumsNotes.{notes-kinds}
 use Rattle.history_model.proofs.FoldSumsCuts.{is_flush_of, last_flush, last_flush-here, last_flush-skip, some_flags}
 use Rattle.history_model.proofs.FoldSumsLogs.{log-next, log-flushed}
@@ -60,7 +62,7 @@ log-unflagged cl a b [] = refl
 log-unflagged cl a b (e ∷ p) =
     let unflagged = notes-kinds (λ x. is_flagged a x.fact ≡ false) (λ _ _. refl) (λ _ _ _. refl) (λ _. refl) (λ _ _. refl) cl e p in
     let added = facts_by-unflagged a b (notes cl e p) unflagged in
-    elim (true_or_false (is_flush_of b e)) [
+    elim (cases_Bool (is_flush_of b e)) [
       | inl flush ↦ ap (last_flags a) (log-flushed cl b e p flush).0
       | inr none ↦
           ap (last_flags a) (log-next cl b e p none) ∙ last_flags-append a (log cl b p) (facts_by b (notes cl e p))

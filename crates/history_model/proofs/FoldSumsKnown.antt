@@ -1,6 +1,7 @@
--- The known actors of a fold, and what holds of every positive edge.
+-- The known actors of a fold, and that both ends of a positive edge are known: so the dead may be sought among the
+-- known actors, as `FoldSumsDead` does.
 use Rattle.std.proofs.Common.{◌≡◌, ◌<◌, ◌+◌, ◌||◌, ◌↔◌, ◌⊎◌, ℕ, Bool, true, false, cond, List, [], ◌∷◌, ◌++◌, refl, sym, ◌∙◌, subst, inl, inr, arith}
-use Rattle.std.proofs.lemmas.Bool.{false≢true, ltb-true, or_left, or_right}
+use Rattle.std.proofs.lemmas.Bool.{false≢true, ltb-true, or_left, or_right, and_parts, or_cases}
 use Rattle.std.specs.List.{flat_map}
 use Rattle.crgc_ids.specs.Actor.{Actor, is_actor_below}
 use Rattle.crgc_ids.specs.Nodes.{nodes_below}
@@ -12,7 +13,8 @@ use Rattle.history_model.specs.Facts.{Fact, received, sent_to, created, released
 use Rattle.history_model.specs.Streams.{Notice, delta, window_of, final_of}
 use Rattle.history_model.specs.Folds.{Fold}
 use Rattle.history_model.specs.Graph.{carried_count, created_count, delta_facts, has_edge, holds_actor, insert_actor, known_actors, link_facts, named_by, notice_facts, released_count, rising_actors}
-use Rattle.history_model.proofs.Basics.{and_true, or_true, same_actor-equal, same_actor-refl}
+use Rattle.history_model.proofs.Basics.{same_actor-equal, same_actor-refl}
+use Rattle.history_model.proofs.Lists.{IsAmong-flat_map, IsAmong-from_flat_map, tally-some}
 
 -- ---- members of lists
 
@@ -24,30 +26,6 @@ holds-among xs a = (
       subst (λ x. IsAmong x xs) (same_actor-equal found.0 a found.2) found.1,
   λ h. list_any-member (λ x. same_actor x a) a xs h (same_actor-refl a),
 )
-
--- what is counted at all is there
-pub tally-some : {X : Type 0} (test : X → Bool) (xs : List X) → 0 < tally test xs → (x : X) × IsAmong x xs × (test x ≡ true)
-tally-some test [] l = absurd (omega arith)
-tally-some {X} test (y ∷ ys) l =
-    let later : 0 < tally test ys → (x : X) × IsAmong x (y ∷ ys) × (test x ≡ true) =
-    λ m. (let found = tally-some test ys m in (found.0, inr found.1, found.2)) in
-    let Found : Bool → Type 0 = λ v. test y ≡ v → 0 < cond v (tally test ys + 1) (tally test ys) → (x : X) × IsAmong x (y ∷ ys) × (test x ≡ true) in
-    let found : Found (test y) = elim (test y) as Found [ true ↦ λ t _. (y, inl refl, t) | false ↦ λ _ m. later m ] in
-    found refl l
-
--- the members of a `flat_map` are those of the pieces
-pub IsAmong-flat_map : {X Y : Type 0} (f : X → List Y) (y : Y) (x : X) (xs : List X) → IsAmong x xs → IsAmong y (f x) → IsAmong y (flat_map f xs)
-IsAmong-flat_map f y x [] h m = absurd h
-IsAmong-flat_map f y x (z ∷ zs) (inl e) m = IsAmong-append_left y (f z) (flat_map f zs) (subst (λ w. IsAmong y (f w)) e m)
-IsAmong-flat_map f y x (z ∷ zs) (inr h) m = IsAmong-append_right y (f z) (flat_map f zs) (IsAmong-flat_map f y x zs h m)
-
-pub IsAmong-from_flat_map : {X Y : Type 0} (f : X → List Y) (y : Y) (xs : List X) → IsAmong y (flat_map f xs) → (x : X) × IsAmong x xs × IsAmong y (f x)
-IsAmong-from_flat_map f y [] h = absurd h
-IsAmong-from_flat_map f y (z ∷ zs) h =
-    elim (IsAmong-append_cases y (f z) (flat_map f zs) h) [
-      | inl here ↦ (z, inl refl, here)
-      | inr later ↦ (let found = IsAmong-from_flat_map f y zs later in (found.0, inr found.1, found.2))
-    ]
 
 -- ---- rising lists of actors
 
@@ -96,7 +74,7 @@ one-named a b = (
 
 two-named : (a b c : Actor) → ((same_actor b a || same_actor c a) ≡ true) ↔ IsAmong a (b ∷ c ∷ [])
 two-named a b c = (
-  λ t. elim (or_true (same_actor b a) (same_actor c a) t) [ inl l ↦ inl (sym (same_actor-equal b a l)) | inr r ↦ inr (inl (sym (same_actor-equal c a r))) ],
+  λ t. elim (or_cases (same_actor b a) (same_actor c a) t) [ inl l ↦ inl (sym (same_actor-equal b a l)) | inr r ↦ inr (inl (sym (same_actor-equal c a r))) ],
   λ h. elim h [
     | inl e ↦ or_left (same_actor b a) (same_actor c a) ((one-named a b).1 (inl e))
     | inr k ↦ or_right (same_actor b a) (same_actor c a) ((one-named a c).1 k)
@@ -159,7 +137,7 @@ out-notice false x ns h = delta-notice x ns h
 -- what tells that a reference was made names its owner and its target
 pub created-names : (b a : Actor) (x : Fact) → is_created b a x ≡ true → (names b x ≡ true) × (names a x ≡ true)
 created-names b a (created c d) t =
-    let both = and_true (same_actor c b) (same_actor d a) t in
+    let both = and_parts (same_actor c b) (same_actor d a) t in
     ((two-named b c d).1 (inl (sym (same_actor-equal c b both.0))), (two-named a c d).1 (inr (inl (sym (same_actor-equal d a both.1)))))
 created-names b a _ t = absurd (false≢true t)
 

@@ -1,6 +1,7 @@
--- Logs: which events add to them, and that what an actor noted past its last flush is its log.
+-- Logs: which events add to them, and that what an actor noted past its last flush is its log. `FoldSumsStreams` uses
+-- this where a flush moves a log into an entry.
 use Rattle.std.proofs.Common.{◌≡◌, ◌<◌, ◌≤◌, ◌+◌, ◌&&◌, ℕ, suc, Bool, true, false, cond, List, [], ◌∷◌, ◌++◌, length, refl, sym, ◌∙◌, ap, subst, inl, inr, arith}
-use Rattle.std.proofs.lemmas.Bool.{false≢true, le-ltb, lt-ltb}
+use Rattle.std.proofs.lemmas.Bool.{false≢true, le-ltb, lt-ltb, cases_Bool}
 use Rattle.std.proofs.lemmas.List.{append-nil}
 use Rattle.std.specs.Prelude.{◌==◌, nat_lt}
 use Rattle.crgc_ids.specs.Actor.{Actor}
@@ -10,10 +11,11 @@ use Rattle.history_model.specs.Tally.{tally}
 use Rattle.history_model.specs.Cluster.{Cluster, same_actor}
 use Rattle.history_model.specs.Facts.{Fact, Note, notes}
 use Rattle.history_model.specs.Streams.{facts_by, log}
-use Rattle.history_model.proofs.Basics.{same_actor-equal, tally-append, true_or_false}
+use Rattle.history_model.proofs.Basics.{same_actor-equal}
 use Rattle.history_model.proofs.Sums.{told_sum}
 use Rattle.history_model.proofs.FoldSumsNotes.{told-same}
 use Rattle.history_model.proofs.FoldSumsCuts.{is_flush_of, last_flush, last_flush-end, last_flush-here, last_flush-other, last_flush-within}
+use Rattle.history_model.proofs.Lists.{tally-append}
 
 -- ---- events and logs
 
@@ -80,7 +82,7 @@ module _ (cl : Cluster) (o : ℕ) (t : Fact → Bool) where
   -- below both cuts of b the two tell the same
   raised-tests : (b : Actor) (u v : Actor → ℕ) (k : ℕ) → ((x : Actor) → same_actor x b ≡ false → v x ≡ u x) → k < u b → k < v b → (a : Actor) → nat_lt k (v a) ≡ nat_lt k (u a)
   raised-tests b u v k others low high a =
-      elim (true_or_false (same_actor a b)) [
+      elim (cases_Bool (same_actor a b)) [
         | inl same ↦ subst (λ x. nat_lt k (v x) ≡ nat_lt k (u x)) (sym (same_actor-equal a b same)) (lt-ltb k (v b) high ∙ sym (lt-ltb k (u b) low))
         | inr other ↦ ap (nat_lt k) (others a other)
       ]
@@ -89,7 +91,7 @@ module _ (cl : Cluster) (o : ℕ) (t : Fact → Bool) where
   pub told-raised : (b : Actor) (u v : Actor → ℕ) (h : List Event) → IsRaised b u v h → told_sum cl v counts h ≡ told_sum cl u counts h + tally t (log cl b h)
   told-raised b u v [] raised = omega arith
   told-raised b u v (e ∷ p) raised =
-      elim (true_or_false (is_flush_of b e)) [
+      elim (cases_Bool (is_flush_of b e)) [
         | inl flush ↦ (
             let blank = log-flushed cl b e p flush in
             let low = raised.low ∙ last_flush-here 0 length b (suc (length p)) e p flush (omega arith) in

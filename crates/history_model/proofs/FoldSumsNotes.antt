@@ -1,46 +1,18 @@
--- Sums of told notes: how they compare with all notes, grow with the history, and depend on cuts and tests.
-use Rattle.std.proofs.Common.{◌≡◌, ◌<◌, ◌≤◌, ◌+◌, ◌&&◌, ℕ, Bool, true, false, cond, List, [], ◌∷◌, ◌++◌, length, map, refl, sym, ◌∙◌, ap, subst, inl, inr, arith}
-use Rattle.std.proofs.lemmas.Bool.{and_from, false≢true, lt-ltb, ltb-true}
+-- Sums of told notes: how they compare with all notes, grow with the history, and depend on cuts and tests. Both the
+-- counts of folds (`FoldSumsCounts`) and the core of soundness (`SoundnessTold`) are such sums.
+use Rattle.std.proofs.Common.{◌≡◌, ◌<◌, ◌≤◌, ◌&&◌, ℕ, Bool, true, false, cond, List, [], ◌∷◌, ◌++◌, length, map, refl, sym, ◌∙◌, ap, subst, inl, inr, arith}
+use Rattle.std.proofs.Math.Bool.{and-false}
+use Rattle.std.proofs.lemmas.Bool.{and_from, false≢true, lt-ltb, ltb-true, and_parts, false_from_ne_true}
 use Rattle.std.specs.Prelude.{◌==◌, nat_lt}
 use Rattle.crgc_ids.specs.Actor.{Actor}
 use Rattle.crgc_ids.specs.Members.{IsAmong}
 use Rattle.history_model.specs.declared.events.Event.{Event}
 use Rattle.history_model.specs.declared.events.Event.TheVariants.{Seed, Tie, Take, Spawn, Send, Drop}
-use Rattle.history_model.specs.Tally.{tally}
 use Rattle.history_model.specs.Cluster.{Cluster, same_actor, newborn}
 use Rattle.history_model.specs.Facts.{Note, received, sent_to, created, released, is_received, is_released, note_by, notes}
-use Rattle.history_model.proofs.Basics.{and_true, same_actor-equal}
+use Rattle.history_model.proofs.Basics.{same_actor-equal}
 use Rattle.history_model.proofs.Sums.{noted_sum, told_sum}
-
--- ---- tallies
-
--- what passes the first test passes the second: no more pass the first
-pub tally-implies : {X : Type 0} (s t : X → Bool) (xs : List X) → ((x : X) → IsAmong x xs → s x ≡ true → t x ≡ true) → tally s xs ≤ tally t xs
-tally-implies s t [] h = omega arith
-tally-implies s t (x ∷ xs) h =
-    let later = tally-implies s t xs (λ y m. h y (inr m)) in
-    let Less : Bool → Bool → Type 0 = λ v w. (v ≡ true → w ≡ true) → cond v (tally s xs + 1) (tally s xs) ≤ cond w (tally t xs + 1) (tally t xs) in
-    let less : Less (s x) (t x) = elim (s x) as (λ v. Less v (t x)) [
-      | true ↦ elim (t x) as (λ w. Less true w) [ true ↦ λ _. omega arith | false ↦ λ i. absurd (false≢true (i refl)) ]
-      | false ↦ elim (t x) as (λ w. Less false w) [ true ↦ λ _. omega arith | false ↦ λ _. later ]
-    ] in
-    less (h x (inl refl))
-
-pub tally-same : {X : Type 0} (s t : X → Bool) (xs : List X) → ((x : X) → s x ≡ t x) → tally s xs ≡ tally t xs
-tally-same s t xs e =
-    let less = tally-implies s t xs (λ x _ h. sym (e x) ∙ h) in
-    let more = tally-implies t s xs (λ x _ h. e x ∙ h) in
-    omega arith
-
-pub tally-none : {X : Type 0} (s : X → Bool) (xs : List X) → ((x : X) → IsAmong x xs → ¬ (s x ≡ true)) → tally s xs ≡ 0
-tally-none s xs h =
-    let less = tally-implies s (λ _. false) xs (λ x m t. absurd (h x m t)) in
-    let zero = tally-false xs in
-    omega arith
-  where
-    tally-false : {X : Type 0} (ys : List X) → tally (λ _. false) ys ≡ 0
-    tally-false [] = refl
-    tally-false (y ∷ ys) = tally-false ys
+use Rattle.history_model.proofs.Lists.{tally-implies, tally-same, tally-none}
 
 -- ---- told and noted
 
@@ -49,17 +21,12 @@ pub told-noted : (cl : Cluster) (u : Actor → ℕ) (t : Note → Bool) (h : Lis
 told-noted cl u t [] = omega arith
 told-noted cl u t (e ∷ p) =
     let before = told-noted cl u t p in
-    let here = tally-implies (λ n. nat_lt (length p) (u n.by) && t n) t (notes cl e p) (λ x _ b. (and_true (nat_lt (length p) (u x.by)) (t x) b).1) in
+    let here = tally-implies (λ n. nat_lt (length p) (u n.by) && t n) t (notes cl e p) (λ x _ b. (and_parts (nat_lt (length p) (u x.by)) (t x) b).1) in
     omega arith
 
 pub told-grows : (cl : Cluster) (u : Actor → ℕ) (t : Note → Bool) (q p : List Event) → told_sum cl u t p ≤ told_sum cl u t (q ++ p)
 told-grows cl u t [] p = omega arith
 told-grows cl u t (e ∷ q) p = let before = told-grows cl u t q p in omega arith
-
--- the notes that pass the test are told below position k
-abbrev pub AreToldFrom : Cluster → (Actor → ℕ) → (Note → Bool) → ℕ → Type 0
-AreToldFrom cl u t k =
-    (e : Event) (p : List Event) (x : Note) → IsAmong x (notes cl e p) → t x ≡ true → k ≤ u x.by
 
 -- no note that passes the test is told from position k on
 abbrev pub AreToldBelow : Cluster → (Actor → ℕ) → (Note → Bool) → ℕ → Type 0
@@ -74,24 +41,17 @@ told-next cl u t e p all before =
     let most = told-noted cl u t (e ∷ p) in
     omega arith
 
--- where the cuts are no lower than the position, all is told
-pub told-all : (cl : Cluster) (u : Actor → ℕ) (t : Note → Bool) (h : List Event) → AreToldFrom cl u t (length h) → told_sum cl u t h ≡ noted_sum cl t h
-told-all cl u t [] above = refl
-told-all cl u t (e ∷ p) above =
-    told-next cl u t e p (λ x m s. let l = above e p x m s in omega arith)
-    (told-all cl u t p (λ f r x m s. let l = above f r x m s in omega arith))
-
 -- where the cuts are no higher than the position, nothing more is told later
 pub told-below : (cl : Cluster) (u : Actor → ℕ) (t : Note → Bool) (q p : List Event) → AreToldBelow cl u t (length p) → told_sum cl u t (q ++ p) ≡ told_sum cl u t p
 told-below cl u t [] p below = refl
 told-below cl u t (e ∷ q) p below =
     let before = told-below cl u t q p below in
     let longer = length-grows q p in
-    let here = tally-none (λ n. nat_lt (length (q ++ p)) (u n.by) && t n) (notes cl e (q ++ p)) (λ x m b.
-    let both = and_true (nat_lt (length (q ++ p)) (u x.by)) (t x) b in
+    let here = tally-none (λ n. nat_lt (length (q ++ p)) (u n.by) && t n) (notes cl e (q ++ p)) (λ x m. false_from_ne_true (nat_lt (length (q ++ p)) (u x.by) && t x) (λ b.
+    let both = and_parts (nat_lt (length (q ++ p)) (u x.by)) (t x) b in
     let above = ltb-true (length (q ++ p)) (u x.by) both.0 in
     let low = below e (q ++ p) x m both.1 in
-    absurd (omega arith)) in
+    absurd (omega arith))) in
     omega arith
   where
     length-grows : (r s : List Event) → length s ≤ length (r ++ s)
@@ -103,7 +63,7 @@ pub told-same : (cl : Cluster) (u v : Actor → ℕ) (s t : Note → Bool) (h : 
 told-same cl u v s t [] same = refl
 told-same cl u v s t (e ∷ p) same =
     let before = told-same cl u v s t p (λ k l. same k (omega arith)) in
-    let here = tally-same (λ n. nat_lt (length p) (u n.by) && s n) (λ n. nat_lt (length p) (v n.by) && t n) (notes cl e p) (same (length p) (omega arith)) in
+    let here = tally-same (λ n. nat_lt (length p) (u n.by) && s n) (λ n. nat_lt (length p) (v n.by) && t n) (notes cl e p) (λ x _. same (length p) (omega arith) x) in
     omega arith
 
 -- what no note passes is not told
@@ -111,7 +71,7 @@ pub told-none : (cl : Cluster) (u : Actor → ℕ) (t : Note → Bool) (h : List
 told-none cl u t [] none = refl
 told-none cl u t (e ∷ p) none =
     let before = told-none cl u t p none in
-    let here = tally-none (λ n. nat_lt (length p) (u n.by) && t n) (notes cl e p) (λ x _ b. false≢true (sym (none x) ∙ (and_true (nat_lt (length p) (u x.by)) (t x) b).1)) in
+    let here = tally-none (λ n. nat_lt (length p) (u n.by) && t n) (notes cl e p) (λ x _. ap (λ v. nat_lt (length p) (u x.by) && v) (none x) ∙ and-false (nat_lt (length p) (u x.by))) in
     omega arith
 
 -- an event at or above all cuts tells nothing
@@ -165,4 +125,4 @@ noter-received cl e p a =
 pub noter-released : (cl : Cluster) (e : Event) (p : List Event) (b a : Actor) (x : Note) → IsAmong x (notes cl e p) → is_released b a x.fact ≡ true → x.by ≡ b
 noter-released cl e p b a =
     notes-kinds (λ x. is_released b a x.fact ≡ true → x.by ≡ b) (λ _ _ t. absurd (false≢true t)) (λ _ _ _ t. absurd (false≢true t))
-    (λ _ t. absurd (false≢true t)) (λ c d t. same_actor-equal c b (and_true (same_actor c b) (same_actor d a) t).0) cl e p
+    (λ _ t. absurd (false≢true t)) (λ c d t. same_actor-equal c b (and_parts (same_actor c b) (same_actor d a) t).0) cl e p

@@ -1,6 +1,7 @@
--- The dead are exactly the known actors outside the lost nodes that no pseudoroot reaches.
+-- The dead, which are computed as a greatest set, are exactly the known actors outside the lost nodes that no
+-- pseudoroot reaches.
 use Rattle.std.proofs.Common.{◌≡◌, ◌↔◌, ◌⊎◌, ◌&&◌, ◌||◌, ℕ, zero, suc, Bool, true, false, not, List, [], ◌∷◌, length, refl, sym, ◌∙◌, subst, inl, inr}
-use Rattle.std.proofs.lemmas.Bool.{false≢true, or_parts}
+use Rattle.std.proofs.lemmas.Bool.{false≢true, or_parts, cases_Bool, not-false}
 use Rattle.std.specs.List.{filter, list_all}
 use Rattle.crgc_ids.specs.Actor.{Actor}
 use Rattle.crgc_ids.specs.Greatest.{greatest, prune}
@@ -10,9 +11,8 @@ use Rattle.history_model.specs.Cluster.{Cluster}
 use Rattle.history_model.specs.Folds.{Fold}
 use Rattle.history_model.specs.Graph.{candidates, dead, has_edge, holds_actor, is_pseudoroot, is_unreached, known_actors}
 use Rattle.history_model.specs.Reached.{IsChain, IsReached}
-use Rattle.history_model.proofs.Basics.{true_or_false}
 use Rattle.history_model.proofs.FoldSumsKnown.{holds-among}
-use Rattle.history_model.proofs.FoldSumsDead.{candidate-among, dead-candidate, dead-closed, not_false}
+use Rattle.history_model.proofs.FoldSumsDead.{candidate-among, dead-candidate, dead-closed}
 
 list_all-false : {X : Type 0} (test : X → Bool) (xs : List X) → list_all test xs ≡ false → (x : X) × IsAmong x xs × (test x ≡ false)
 list_all-false test [] e = absurd (false≢true (sym e))
@@ -38,7 +38,7 @@ module _ (cl : Cluster) (lost : ℕ → Bool) (f : Fold) where
 
   covers-candidates : Covers (candidates cl lost f)
   covers-candidates a known out =
-      elim (true_or_false (is_pseudoroot cl lost f a)) [
+      elim (cases_Bool (is_pseudoroot cl lost f a)) [
         | inl root ↦ inr (a, [], root, refl)
         | inr none ↦ inl (candidate-among cl lost f a (known, out, none))
       ]
@@ -53,7 +53,7 @@ module _ (cl : Cluster) (lost : ℕ → Bool) (f : Fold) where
       elim (covers b found.1 more.0) [
         | inl inside ↦ absurd (false≢true (sym tests.0 ∙ (holds-among xs b).1 inside))
         | inr reached ↦ (
-            let next = chain-next reached.0 b a reached.1 reached.3 more.0 (not_false (has_edge cl lost f b a) more.1) in
+            let next = chain-next reached.0 b a reached.1 reached.3 more.0 (not-false (has_edge cl lost f b a) more.1) in
             (reached.0, next.0, reached.2, next.1)
             )
       ]
@@ -61,7 +61,7 @@ module _ (cl : Cluster) (lost : ℕ → Bool) (f : Fold) where
   -- what is taken away is reached
   covers-filter : (xs : List Actor) → Covers xs → Covers (filter (is_unreached cl lost f xs) xs)
   covers-filter xs covers a known out =
-      elim (true_or_false (is_unreached cl lost f xs a)) [
+      elim (cases_Bool (is_unreached cl lost f xs a)) [
         | inl fit ↦ elim (covers a known out) [ inl h ↦ inl (IsAmong-filter (is_unreached cl lost f xs) a xs h fit) | inr reached ↦ inr reached ]
         | inr unfit ↦ inr (reached-outside xs covers a unfit)
       ]
@@ -86,8 +86,9 @@ module _ (cl : Cluster) (lost : ℕ → Bool) (f : Fold) where
       let start = dead-candidate cl lost f reached.0 (dead-chain reached.0 reached.1 a reached.3 h) in
       false≢true (sym start.2 ∙ reached.2)
 
-  pub dead-unreached : (a : Actor) → IsAmong a (known_actors cl f) → lost a.node ≡ false → IsAmong a (dead cl lost f) ↔ ¬ IsReached cl lost f a
-  dead-unreached a known out = (
-    dead-not_reached a,
-    λ never. elim (dead-or_reached a known out) [ inl h ↦ h | inr reached ↦ absurd (never reached) ],
+  -- so the dead are the known actors outside the lost nodes that are not reached
+  pub dead-unreached : (a : Actor) → IsAmong a (dead cl lost f) ↔ (IsAmong a (known_actors cl f) × (lost a.node ≡ false) × ¬ IsReached cl lost f a)
+  dead-unreached a = (
+    λ h. (let c = dead-candidate cl lost f a h in (c.0, c.1, dead-not_reached a h)),
+    λ all. elim (dead-or_reached a all.0 all.1) [ inl h ↦ h | inr reached ↦ absurd (all.2 reached) ],
   )

@@ -1,6 +1,7 @@
--- What the first bulletins of a stream tell: the notes below the cuts, and the flags there.
+-- What the first bulletins of a stream tell: the notes below the cuts, and the flags there. `FoldSumsCounts` adds up
+-- the streams of all nodes.
 use Rattle.std.proofs.Common.{◌≡◌, ◌≤◌, ◌+◌, ◌&&◌, ℕ, suc, Bool, true, false, cond, List, ◌∷◌, length, take, refl, sym, ◌∙◌, ap, inl, inr, arith}
-use Rattle.std.proofs.lemmas.Bool.{and_right}
+use Rattle.std.proofs.lemmas.Bool.{and_right, cases_Bool}
 use Rattle.std.specs.Prelude.{◌==◌, nat_lt, Option, None}
 use Rattle.crgc_ids.specs.Actor.{Actor}
 use Rattle.history_model.specs.declared.events.Event.{Event}
@@ -10,13 +11,14 @@ use Rattle.history_model.specs.Cluster.{Cluster}
 use Rattle.history_model.specs.Facts.{Flags, Fact, flagged, Note}
 use Rattle.history_model.specs.Streams.{entry, flags_at, log, stream}
 use Rattle.history_model.specs.Graph.{delta_facts, last_flags}
-use Rattle.history_model.proofs.Basics.{eqb-refl, same_actor-refl, same_actor-sym, tally-append, true_or_false}
+use Rattle.history_model.proofs.Basics.{eqb-refl, same_actor-refl, same_actor-sym}
 use Rattle.history_model.proofs.Sums.{flags_cut, flush_cut, publish_cut, told_sum}
 use Rattle.history_model.proofs.FoldSumsNotes.{told-later, told-same}
 use Rattle.history_model.proofs.FoldSumsCuts.{flags_cut-last, flush-elsewhere, flush_cut-last, is_flush_on, last_flush, last_flush-here, last_flush-later, last_flush-skip, last_flush-within, some_flags}
 use Rattle.history_model.proofs.FoldSumsBulletins.{IsToldUntil, stream-value}
 use Rattle.history_model.proofs.FoldSumsLogs.{IsRaised, passes, told-raised}
 use Rattle.history_model.proofs.FoldSumsFlags.{entry-flags, last_flags-append, newer, newer-assoc}
+use Rattle.history_model.proofs.Lists.{tally-append}
 
 -- ---- notes
 
@@ -31,7 +33,7 @@ module _ (cl : Cluster) (o : ℕ) (t : Fact → Bool) where
   -- the cuts of other nodes' actors do not matter
   same-passing : (k : ℕ) (x : Note) (c d : ℕ) → ((x.by.node == o) ≡ true → c ≡ d) → (nat_lt k c && counts x) ≡ (nat_lt k d && counts x)
   same-passing k x c d same =
-      elim (true_or_false (x.by.node == o)) [
+      elim (cases_Bool (x.by.node == o)) [
         | inl on ↦ ap (λ w. nat_lt k w && counts x) (same on)
         | inr off ↦ (
             let none = ap (λ w. w && t x.fact) off in

@@ -1,6 +1,6 @@
--- No node leaves the lost ones; at a quiet point they are exactly the nodes that have crashed.
+-- No node leaves the lost ones; at a quiet point they are exactly the nodes that have crashed, as completeness needs.
 use Rattle.std.proofs.Common.{◌≡◌, ◌≤◌, ◌<◌, ℕ, zero, suc, true, false, not, List, [], ◌∷◌, ◌++◌, take, sym, ◌∙◌, ap, subst, inl, inr, arith}
-use Rattle.std.proofs.lemmas.Bool.{false_from_ne_true, true≢false}
+use Rattle.std.proofs.lemmas.Bool.{false_from_ne_true, true≢false, not-true, cases_Bool}
 use Rattle.std.proofs.lemmas.List.{take_all}
 use Rattle.std.specs.List.{filter}
 use Rattle.crgc_ids.specs.Members.{IsAmong, IsPart}
@@ -15,7 +15,6 @@ use Rattle.history_model.specs.Streams.{Notice, delta, window_of, final_of, stre
 use Rattle.history_model.specs.Folds.{cut_at, links_into, final_links, fold_to, folded, is_lost}
 use Rattle.history_model.specs.Legal.{IsLegal}
 use Rattle.history_model.specs.Quiescent.{IsQuietPoint}
-use Rattle.history_model.proofs.Basics.{not_true, true_or_false}
 use Rattle.history_model.proofs.LinksStreams.{cut-grows, stream-grows}
 use Rattle.history_model.proofs.LinksSettled.{among-lost, closed-final, final_links-from, final_links-member, lost-among, settled}
 
@@ -62,15 +61,15 @@ quiet-lost cl m h legal here quiet n below =
     let found = IsAmong-from_filter (λ j. not (is_up j h)) s (nodes_below cl.nodes) k in
     let range = IsAmong-from_range s 0 cl.nodes found.0 in
     let inside : s < cl.nodes = omega (arith, range) in
-    let gone = not_true (is_up s h) found.1 in (
+    let gone = not-true (is_up s h) found.1 in (
       inside,
       (m, final s m inside here gone quiet.up),
-      λ d dl outside. elim (true_or_false (is_up d h)) [
+      λ d dl outside. elim (cases_Bool (is_up d h)) [
         | inl up ↦ final s d inside dl gone up
         | inr also ↦ absurd (outside (is_down d dl also))
       ],
     ) in
-    elim (true_or_false (is_up n h)) [
+    elim (cases_Bool (is_up n h)) [
       | inl up ↦ false_from_ne_true (is_lost cl f n) (λ lost. true≢false (sym up ∙ (settled cl h legal (cut_at cl m h)).crashed n lost)) ∙ sym (ap not up)
       | inr gone ↦ among-lost cl f n (lost_nodes-greatest cl.nodes (final_links cl f) down are_lost n (is_down n below gone)) ∙ sym (ap not gone)
     ]

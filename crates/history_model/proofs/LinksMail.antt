@@ -1,6 +1,7 @@
--- Where the lost nodes are settled, what a fold admits from them is the mail that they sent.
+-- Where the lost nodes are settled, what a fold admits from them is the mail that they sent: this is what balances and
+-- edges count in the place of what lost nodes told.
 use Rattle.std.proofs.Common.{◌≡◌, ◌≢◌, ◌≤◌, ◌<◌, ◌+◌, ◌&&◌, ◌==◌, ℕ, zero, suc, Bool, true, false, cond, if◌then◌else◌, List, [], ◌∷◌, ◌++◌, map, take, drop, slice_get, option_to_list, sum_by, refl, sym, ◌∙◌, ap, ap₂, subst, inl, inr, arith, ltb-true, ne_eqb, take-append-drop}
-use Rattle.std.proofs.lemmas.Bool.{cases_eq}
+use Rattle.std.proofs.lemmas.Bool.{eqb-true}
 use Rattle.std.proofs.lemmas.List.Sums.{sum_by-append}
 use Rattle.std.specs.List.{filter}
 use Rattle.crgc_ids.specs.Actor.{Actor}
@@ -18,10 +19,11 @@ use Rattle.history_model.specs.Folds.{fold_to}
 use Rattle.history_model.specs.Graph.{link_facts, admitted_facts, admitted_count, carried_count}
 use Rattle.history_model.specs.Legal.{IsLegal}
 use Rattle.history_model.specs.Settled.{AreSettled, admitted_on}
-use Rattle.history_model.proofs.Basics.{eqb-refl, eqb-equal, same_actor-equal, tally-append, legal-kept}
+use Rattle.history_model.proofs.Basics.{eqb-refl, same_actor-equal, legal-kept, same_actor-sym}
 use Rattle.history_model.proofs.LinksSettled.{link-equal}
 use Rattle.history_model.proofs.LinksSums.{nodes-point, sum_by-filter, sum_by-none, sum_by-same, tally-flat_map, tally-sum_by}
 use Rattle.history_model.proofs.LinksWindows.{link_facts-append, told_from, windows-told}
+use Rattle.history_model.proofs.Lists.{tally-append}
 
 -- ---- where messages come from, and go to
 
@@ -101,7 +103,7 @@ abbrev pub from_lost : (ℕ → Bool) → (Message → ℕ) → ℕ → List Eve
 from_lost lost w d h s = cond (lost s) (sum_by w (admitted_on s d h)) 0
 
 -- what counts nothing counts nothing from a lost node
-cond_none : (v : Bool) (n : ℕ) → n ≡ 0 → cond v n 0 ≡ 0
+pub cond_none : (v : Bool) (n : ℕ) → n ≡ 0 → cond v n 0 ≡ 0
 cond_none true n none = none
 cond_none false n none = refl
 
@@ -130,7 +132,7 @@ module _ (lost : ℕ → Bool) (b : Actor) (w : Message → ℕ) (none : (m : Me
       let same : m.from.node ≡ m.to.node =
       (elim (f.node == t.node) as (λ v. f.node == t.node ≡ v → IsAmong m (cond v (one ∷ []) []) → m.from.node ≡ m.to.node) [
         | true ↦ λ e i. elim i [
-          | inl is ↦ ap (λ (x : Message). x.from.node) is ∙ eqb-equal f.node t.node e ∙ sym (ap (λ (x : Message). x.to.node) is)
+          | inl is ↦ ap (λ (x : Message). x.from.node) is ∙ eqb-true f.node t.node e ∙ sym (ap (λ (x : Message). x.to.node) is)
           | inr no_more ↦ absurd no_more
         ]
         | false ↦ λ _ i. absurd i
@@ -321,17 +323,6 @@ sent_weight a m =
       | true ↦ omega (arith, nothing)
       | false ↦ nothing
     ]
-
--- the test for equal numbers is symmetric
-eqb-sym : (m n : ℕ) → m == n ≡ n == m
-eqb-sym m n = elim (cases_eq m n) [
-  | inl e ↦ ap₂ ◌==◌ e (sym e)
-  | inr differ ↦ ne_eqb m n differ ∙ sym (ne_eqb n m (λ e. differ (sym e)))
-]
-
--- so is that for the same actor
-same_actor-sym : (a b : Actor) → same_actor a b ≡ same_actor b a
-same_actor-sym a b = ap₂ ◌&&◌ (eqb-sym a.node b.node) (eqb-sym a.serial b.serial)
 
 -- the references to a among those that are made for t count, where t is b
 created_weight : (b a t : Actor) (refs : List Actor) (v : Bool) → same_actor t b ≡ v

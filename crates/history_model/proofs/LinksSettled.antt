@@ -1,7 +1,7 @@
 -- The nodes that a fold shows as lost are settled: they have crashed, nothing is under way from them to a node outside,
 -- and all that such a node admitted from them is folded.
-use Rattle.std.proofs.Common.{◌≡◌, ◌<◌, ◌+◌, ◌&&◌, ◌||◌, ◌==◌, ℕ, Bool, true, false, not, cond, List, [], ◌∷◌, ◌++◌, length, take, slice_get, option_to_list, flat_map, refl, sym, ◌∙◌, ap, ap₂, subst, inl, inr, arith, append-nil, eq-eqb, ltb-true, ◌↔◌, ◌⊎◌, take-append-drop, length-append, drop}
-use Rattle.std.proofs.lemmas.Bool.{cases_lt, cond-false, or_left, or_right, false_from_ne_true, and_from, true≢false}
+use Rattle.std.proofs.Common.{◌≡◌, ◌<◌, ◌&&◌, ◌||◌, ◌==◌, ℕ, Bool, true, false, not, cond, List, [], ◌∷◌, ◌++◌, length, take, flat_map, refl, sym, ◌∙◌, ap, ap₂, subst, inl, inr, arith, append-nil, eq-eqb, ltb-true, ◌↔◌, ◌⊎◌, take-append-drop, length-append, drop}
+use Rattle.std.proofs.lemmas.Bool.{cases_lt, cond-false, or_left, or_right, false_from_ne_true, and_from, true≢false, and_parts, or_cases, not-true, cases_Bool, eqb-true}
 use Rattle.std.proofs.lemmas.List.{take-append-le, take_all}
 use Rattle.std.specs.List.{list_any}
 use Rattle.crgc_ids.specs.Members.{IsAmong}
@@ -9,7 +9,7 @@ use Rattle.crgc_ids.specs.Nodes.{nodes_below}
 use Rattle.crgc_ids.proofs.LostNodesLaws.{lost_nodes-lost}
 use Rattle.crgc_ids.proofs.MembersLaws.{IsAmong-append_cases, IsAmong-append_left, IsAmong-append_right, IsAmong-range, IsAmong-from_range, list_any-member, list_any-true}
 use Rattle.history_model.specs.declared.events.Event.{Event}
-use Rattle.history_model.specs.declared.events.Event.TheVariants.{Seed, Spawn, Publish, Send, Window, Admit, Crash, Remove}
+use Rattle.history_model.specs.declared.events.Event.TheVariants.{Publish, Send, Window, Admit, Crash, Remove}
 use Rattle.history_model.specs.Cluster.{Cluster, births}
 use Rattle.history_model.specs.Messages.{Message, admitted_by, sent, is_closed}
 use Rattle.history_model.specs.Facts.{Fact, message_facts}
@@ -18,8 +18,10 @@ use Rattle.history_model.specs.Streams.{Notice, delta, window_of, final_of, queu
 use Rattle.history_model.specs.Folds.{Fold, fold_to, links_into, final_links, lost_of, is_lost}
 use Rattle.history_model.specs.Legal.{IsLegal}
 use Rattle.history_model.specs.Settled.{AreSettled, admitted_on}
-use Rattle.history_model.proofs.Basics.{and_true, or_true, not_true, true_or_false, eqb-refl, eqb-equal, legal-kept}
+use Rattle.history_model.proofs.Basics.{eqb-refl, legal-kept}
 use Rattle.history_model.proofs.LinksWindows.{link_facts-skip, told_from, windows-told}
+use Rattle.history_model.proofs.AccountsBirths.{births-on_nodes}
+use Rattle.history_model.proofs.Lists.{IsAmong-flat_map, IsAmong-from_flat_map, place-within}
 
 -- ---- finals and removals
 
@@ -58,13 +60,13 @@ final_put s d x xs facts true =
         | inr last ↦ inl (and_from (x == s) true (eq-eqb x s (sym (final_source s d x last))) refl)
       ],
       λ u. subst (IsAmong (s, d)) (sym joined) (elim u [
-        | inl now ↦ IsAmong-append_right (s, d) (links_into d xs) ((x, d) ∷ []) (inl (ap pair (sym (eqb-equal x s (and_true (x == s) true now).0))))
+        | inl now ↦ IsAmong-append_right (s, d) (links_into d xs) ((x, d) ∷ []) (inl (ap pair (sym (eqb-true x s (and_parts (x == s) true now).0))))
         | inr before ↦ IsAmong-append_left (s, d) (links_into d xs) ((x, d) ∷ []) before
       ]),
     )
 final_put s d x xs facts false = (
   λ m. inr m,
-  λ u. elim u [ inl now ↦ absurd (true≢false (sym (and_true (x == s) false now).1)) | inr before ↦ before ],
+  λ u. elim u [ inl now ↦ absurd (true≢false (sym (and_parts (x == s) false now).1)) | inr before ↦ before ],
 )
 
 -- a final in d's stream was given by a removal by d
@@ -93,7 +95,7 @@ closed-final cl (Publish k ∷ p) s d t =
 closed-final cl (Window y x ∷ p) s d t =
     subst (IsAmong (s, d)) (sym (links_into-skip d (stream cl d p) (window_of x (window x y p)) (y == d) refl)) (closed-final cl p s d t)
 closed-final cl (Remove y x ∷ p) s d t =
-    (final_put s d x (stream cl d p) (window x y p) (y == d)).1 (elim (or_true ((x == s) && (y == d)) (is_closed s d p) t) [
+    (final_put s d x (stream cl d p) (window x y p) (y == d)).1 (elim (or_cases ((x == s) && (y == d)) (is_closed s d p) t) [
       | inl now ↦ inl now
       | inr before ↦ inr (closed-final cl p s d before)
     ])
@@ -103,21 +105,21 @@ closed-final cl (_ ∷ p) s d t = closed-final cl p s d t
 
 -- links that test the same are equal
 pub link-equal : (x y s d : ℕ) → ((x == s) && (y == d)) ≡ true → (x ≡ s) × (y ≡ d)
-link-equal x y s d t = let both = and_true (x == s) (y == d) t in (eqb-equal x s both.0, eqb-equal y d both.1)
+link-equal x y s d t = let both = and_parts (x == s) (y == d) t in (eqb-true x s both.0, eqb-true y d both.1)
 
 -- a link that is open is not one that is closed
 not_closed : (p : List Event) (x y s d : ℕ) → not (is_closed x y p) ≡ true → is_closed s d p ≡ true → ((x == s) && (y == d)) ≡ false
 not_closed p x y s d opened closed = false_from_ne_true ((x == s) && (y == d)) (λ t.
     let same = link-equal x y s d t in
-    true≢false (sym closed ∙ sym (ap₂ (λ a b. is_closed a b p) same.0 same.1) ∙ not_true (is_closed x y p) opened))
+    true≢false (sym closed ∙ sym (ap₂ (λ a b. is_closed a b p) same.0 same.1) ∙ not-true (is_closed x y p) opened))
 
 -- a removed node has crashed
 pub closed-crashed : (cl : Cluster) (h : List Event) → IsLegal cl h → (s d : ℕ) → is_closed s d h ≡ true → is_up s h ≡ false
 closed-crashed cl [] legal s d t = absurd (true≢false (sym t))
 closed-crashed cl (Remove y x ∷ p) legal s d t =
     let kept = legal-kept cl (Remove y x) p legal in
-    elim (or_true ((x == s) && (y == d)) (is_closed s d p) t) [
-      | inl now ↦ subst (λ k. is_up k p ≡ false) (link-equal x y s d now).0 (not_true (is_up x p) kept.1.1.1.1.0)
+    elim (or_cases ((x == s) && (y == d)) (is_closed s d p) t) [
+      | inl now ↦ subst (λ k. is_up k p ≡ false) (link-equal x y s d now).0 (not-true (is_up x p) kept.1.1.1.1.0)
       | inr before ↦ closed-crashed cl p legal.1 s d before
     ]
 closed-crashed cl (Crash n ∷ p) legal s d t =
@@ -193,34 +195,13 @@ final-told cl h legal s d n m =
 
 -- ---- nodes of messages
 
--- actors are born on nodes of the cluster
-pub births-below : (cl : Cluster) (h : List Event) → IsLegal cl h → (n : ℕ) → 0 < births n h → n < cl.nodes
-births-below cl [] legal n some = absurd (omega arith)
-births-below cl (Seed m ∷ p) legal n some =
-    let kept = legal-kept cl (Seed m) p legal in
-    let before = births-below cl p legal.1 n in
-    (elim (m == n) as (λ v. m == n ≡ v → 0 < cond v (births n p + 1) (births n p) → n < cl.nodes) [
-      | true ↦ λ e _. subst (λ k. k < cl.nodes) (eqb-equal m n e) (ltb-true m cl.nodes kept.0)
-      | false ↦ λ _ l. before l
-    ]) refl some
-births-below cl (Spawn a ∷ p) legal n some =
-    let kept = legal-kept cl (Spawn a) p legal in
-    let born : a.serial < births a.node p = ltb-true a.serial (births a.node p) kept.0 in
-    let parent = births-below cl p legal.1 a.node (omega (arith, born)) in
-    let before = births-below cl p legal.1 n in
-    (elim (a.node == n) as (λ v. a.node == n ≡ v → 0 < cond v (births n p + 1) (births n p) → n < cl.nodes) [
-      | true ↦ λ e _. subst (λ k. k < cl.nodes) (eqb-equal a.node n e) parent
-      | false ↦ λ _ l. before l
-    ]) refl some
-births-below cl (_ ∷ p) legal n some = births-below cl p legal.1 n some
-
 -- messages are sent to nodes of the cluster
 pub sent-below : (cl : Cluster) (h : List Event) → IsLegal cl h → (s d : ℕ) → 0 < length (sent s d h) → d < cl.nodes
 sent-below cl [] legal s d some = absurd (omega arith)
 sent-below cl (Send f t refs ∷ p) legal s d some =
     let kept = legal-kept cl (Send f t refs) p legal in
     let born : t.serial < births t.node p = ltb-true t.serial (births t.node p) kept.1.0 in
-    let recipient = births-below cl p legal.1 t.node (omega (arith, born)) in
+    let recipient = births-on_nodes cl p legal.1 t.node (omega (arith, born)) in
     let before = sent-below cl p legal.1 s d in
     let longer : List Message = sent s d p ++ record { from = f; to = t; refs = refs } ∷ [] in
     (elim ((f.node == s) && (t.node == d)) as (λ v. ((f.node == s) && (t.node == d)) ≡ v → 0 < length (cond v longer (sent s d p)) → d < cl.nodes) [
@@ -229,27 +210,7 @@ sent-below cl (Send f t refs ∷ p) legal s d some =
     ]) refl some
 sent-below cl (_ ∷ p) legal s d some = sent-below cl p legal.1 s d some
 
--- a list that has a member at k is not empty
-not_empty : (xs : List Message) (k : ℕ) (m : Message) → option_to_list (slice_get xs k) ≡ m ∷ [] → 0 < length xs
-not_empty [] k m e = absurd (cc)
-not_empty (x ∷ xs) k m e = omega arith
-
 -- ---- the lost nodes
-
-module _ {A B : Type 0} (f : A → List B) where
-  -- the members of joined lists are the members of one of them
-  IsAmong-flat_map : (y : B) (x : A) (xs : List A) → IsAmong x xs → IsAmong y (f x) → IsAmong y (flat_map f xs)
-  IsAmong-flat_map y x [] m k = absurd m
-  IsAmong-flat_map y x (z ∷ xs) (inl e) k = IsAmong-append_left y (f z) (flat_map f xs) (subst (λ w. IsAmong y (f w)) e k)
-  IsAmong-flat_map y x (z ∷ xs) (inr m) k = IsAmong-append_right y (f z) (flat_map f xs) (IsAmong-flat_map y x xs m k)
-
-  IsAmong-from_flat_map : (y : B) (xs : List A) → IsAmong y (flat_map f xs) → (x : A) × IsAmong x xs × IsAmong y (f x)
-  IsAmong-from_flat_map y [] m = absurd m
-  IsAmong-from_flat_map y (z ∷ xs) m =
-      elim (IsAmong-append_cases y (f z) (flat_map f xs) m) [
-        | inl k ↦ (z, inl refl, k)
-        | inr k ↦ (let later = IsAmong-from_flat_map y xs k in (later.0, inr later.1, later.2))
-      ]
 
 -- the links of d's finals lead to d
 links_into-end : (d : ℕ) (xs : List Notice) (l : ℕ × ℕ) → IsAmong l (links_into d xs) → l.1 ≡ d
@@ -276,7 +237,7 @@ final_links-from cl f s d m =
 pub lost-among : (cl : Cluster) (f : Fold) (n : ℕ) → is_lost cl f n ≡ true → IsAmong n (lost_of cl f)
 lost-among cl f n t =
     let found = list_any-true (λ x. n == x) (lost_of cl f) t in
-    subst (λ x. IsAmong x (lost_of cl f)) (sym (eqb-equal n found.0 found.2)) found.1
+    subst (λ x. IsAmong x (lost_of cl f)) (sym (eqb-true n found.0 found.2)) found.1
 
 -- and the list against the test
 pub among-lost : (cl : Cluster) (f : Fold) (n : ℕ) → IsAmong n (lost_of cl f) → is_lost cl f n ≡ true
@@ -298,8 +259,8 @@ settled cl h legal c =
           let final = (final_links-from cl f n removed.0 removed.1).1 in
           closed-crashed cl h legal n removed.0 (folded-closed cl h n removed.0 (c removed.0) final);
       closed = λ m on_link lost.
-          let below = sent-below cl h legal m.from.node m.to.node (not_empty (sent m.from.node m.to.node h) on_link.0 m on_link.1) in
-          elim (true_or_false (is_lost cl f m.to.node)) [
+          let below = sent-below cl h legal m.from.node m.to.node (omega (arith, place-within (sent m.from.node m.to.node h) on_link.0 m on_link.1)) in
+          elim (cases_Bool (is_lost cl f m.to.node)) [
             | inl inside ↦ inside
             | inr out ↦ (
                 let final = lost-final cl f m.from.node m.to.node lost below out in

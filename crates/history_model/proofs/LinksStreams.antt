@@ -1,14 +1,13 @@
--- Streams, cuts and folds only grow with the history.
-use Rattle.std.proofs.Common.{◌≡◌, ◌≤◌, ◌<◌, ◌&&◌, ◌==◌, ℕ, zero, suc, Bool, true, false, cond, List, [], ◌∷◌, ◌++◌, length, take, refl, sym, ◌∙◌, ap, subst, inl, inr, arith, append_assoc, append-nil, length-append}
-use Rattle.std.proofs.lemmas.Bool.{cases_lt, or_right}
-use Rattle.std.proofs.lemmas.List.{take-append-le}
-use Rattle.std.specs.List.{list_any}
+-- Streams and cuts only grow with the history, and so, by `LinksLost`, do the lost nodes.
+use Rattle.std.proofs.Common.{◌≡◌, ◌≤◌, ◌<◌, ◌&&◌, ◌==◌, ℕ, zero, suc, Bool, true, false, cond, List, [], ◌∷◌, ◌++◌, length, refl, sym, ◌∙◌, ap, subst, inl, inr, arith, append_assoc, append-nil, length-append}
+use Rattle.std.proofs.lemmas.Bool.{cases_lt, and_parts, eqb-true}
 use Rattle.history_model.specs.declared.events.Event.{Event}
 use Rattle.history_model.specs.declared.events.Event.TheVariants.{Publish, Window, Remove}
 use Rattle.history_model.specs.Cluster.{Cluster}
 use Rattle.history_model.specs.Streams.{Notice, delta, window_of, final_of, queue, window, stream}
-use Rattle.history_model.specs.Folds.{run_of, is_hand, was_handed, cut_at, fold_to, folded}
-use Rattle.history_model.proofs.Basics.{and_true, eqb-equal, eqb-refl}
+use Rattle.history_model.specs.Folds.{run_of, is_hand, was_handed, cut_at}
+use Rattle.history_model.proofs.Basics.{eqb-refl}
+use Rattle.history_model.proofs.AccountsGrowth.{any-stays}
 
 -- ---- streams
 
@@ -45,8 +44,8 @@ run_of-passes : (test : ℕ → Bool) (n k : ℕ) → k < run_of test n → test
 run_of-passes test zero k below = absurd (omega arith)
 run_of-passes test (suc n) k below =
     let last : (run_of test n == n) && test n ≡ true → k < suc n → test k ≡ true = λ t l.
-    let both = and_true (run_of test n == n) (test n) t in
-    let full = eqb-equal (run_of test n) n both.0 in
+    let both = and_parts (run_of test n == n) (test n) t in
+    let full = eqb-true (run_of test n) n both.0 in
     elim (cases_lt k n) [
       | inl less ↦ run_of-passes test n k (omega (arith, less, full))
       | inr most ↦ (let same : n ≡ k = omega (arith, most, l) in subst (λ x. test x ≡ true) same both.1)
@@ -74,11 +73,6 @@ run_of-longest test (suc n) j within pass =
 
 -- ---- cuts
 
--- what happened stays so
-pub any-later : (test : Event → Bool) (q h : List Event) → list_any test h ≡ true → list_any test (q ++ h) ≡ true
-any-later test [] h t = t
-any-later test (e ∷ q) h t = or_right (test e) (list_any test (q ++ h)) (any-later test q h t)
-
 -- no more is folded than there is
 pub cut-bounded : (cl : Cluster) (m : ℕ) (h : List Event) (o : ℕ) → cut_at cl m h o ≤ length (stream cl o h)
 cut-bounded cl m h o = run_of-bounded (λ k. was_handed m o k h) (length (stream cl o h))
@@ -89,16 +83,4 @@ cut-grows cl m q h o =
     let bound = cut-bounded cl m h o in
     let longer = stream-longer cl o q h in
     run_of-longest (λ k. was_handed m o k (q ++ h)) (length (stream cl o (q ++ h))) (cut_at cl m h o) (omega (arith, bound, longer))
-    (λ k l. any-later (is_hand m o k) q h (run_of-passes (λ j. was_handed m o j h) (length (stream cl o h)) k l))
-
--- ---- folds
-
--- the first bulletins of a stream stay as they are
-pub fold-stays : (cl : Cluster) (c : ℕ → ℕ) (q p : List Event) (o : ℕ) → c o ≤ length (stream cl o p) → fold_to cl c p o ≡ fold_to cl c (q ++ p) o
-fold-stays cl c q p o within =
-    let grows = stream-grows cl o q p in
-    sym (ap (take (c o)) grows.1 ∙ take-append-le (c o) (stream cl o p) grows.0 within)
-
--- what was folded at m at a tail is a prefix fold of the longer history
-pub folded-stays : (cl : Cluster) (m : ℕ) (q p : List Event) (o : ℕ) → folded cl m p o ≡ fold_to cl (cut_at cl m p) (q ++ p) o
-folded-stays cl m q p o = fold-stays cl (cut_at cl m p) q p o (cut-bounded cl m p o)
+    (λ k l. any-stays (is_hand m o k) q h (run_of-passes (λ j. was_handed m o j h) (length (stream cl o h)) k l))

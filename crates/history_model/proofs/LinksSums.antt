@@ -1,4 +1,5 @@
--- Sums and tallies over lists, and sums over the nodes of a cluster.
+-- Sums and tallies over lists, and sums over the nodes of a cluster: what a fold admits from lost nodes is summed node
+-- by node in `LinksMail`.
 use Rattle.std.proofs.Common.{◌≡◌, ◌≢◌, ◌≤◌, ◌<◌, ◌+◌, ℕ, zero, suc, Bool, true, false, cond, List, [], ◌∷◌, sum_by, flat_map, refl, sym, ◌∙◌, ap, inl, inr, arith}
 use Rattle.std.proofs.lemmas.Bool.{cases_eq}
 use Rattle.std.proofs.lemmas.List.Sums.{sum_by-cons}
@@ -7,7 +8,7 @@ use Rattle.crgc_ids.specs.Nodes.{nodes_below}
 use Rattle.crgc_ids.specs.Members.{IsAmong}
 use Rattle.crgc_ids.proofs.MembersLaws.{IsAmong-from_range}
 use Rattle.history_model.specs.Tally.{tally}
-use Rattle.history_model.proofs.Basics.{tally-append}
+use Rattle.history_model.proofs.Lists.{tally-append}
 
 module _ {X : Type 0} where
   -- sums of what is equal at each member are equal

@@ -1,7 +1,7 @@
 -- What the windows and finals of a link tell, and what was admitted on it since its last window, is all that was
 -- admitted on it.
 use Rattle.std.proofs.Common.{◌≡◌, ◌&&◌, ◌==◌, ℕ, Bool, true, false, cond, List, [], ◌∷◌, ◌++◌, flat_map, refl, sym, ◌∙◌, ap, ap₂, append_assoc, append-nil}
-use Rattle.std.proofs.lemmas.Bool.{cond-true, cond-false}
+use Rattle.std.proofs.lemmas.Bool.{cond-true, cond-false, eqb-true}
 use Rattle.std.proofs.lemmas.Grind.{flat_map-append}
 use Rattle.history_model.specs.declared.events.Event.{Event}
 use Rattle.history_model.specs.declared.events.Event.TheVariants.{Publish, Window, Admit, Remove}
@@ -11,7 +11,6 @@ use Rattle.history_model.specs.Facts.{Fact, message_facts}
 use Rattle.history_model.specs.Streams.{Notice, delta, window_of, final_of, queue, window, stream}
 use Rattle.history_model.specs.Graph.{link_facts}
 use Rattle.history_model.specs.Settled.{admitted_on}
-use Rattle.history_model.proofs.Basics.{eqb-equal}
 
 -- what the windows and finals of links from s tell
 abbrev pub told_from : ℕ → List Notice → List Fact
@@ -47,7 +46,7 @@ window_told s d x y open_at xs n told one before =
     let nothing = one ∙ cond-false (x == s) (open_at x y ++ []) [] e in
     ap (λ ys. ys ++ open_at s d) (link_facts-skip (λ k. k == s) xs n (y == d) nothing) ∙ before in
     let same : x == s ≡ true → y == d ≡ true → Goal true true = λ e f.
-    let all = one ∙ cond-true (x == s) (open_at x y ++ []) [] e ∙ append-nil (open_at x y) ∙ ap₂ open_at (eqb-equal x s e) (eqb-equal y d f) in
+    let all = one ∙ cond-true (x == s) (open_at x y ++ []) [] e ∙ append-nil (open_at x y) ∙ ap₂ open_at (eqb-true x s e) (eqb-true y d f) in
     append-nil (told_from s (xs ++ n ∷ [])) ∙ link_facts-append (λ k. k == s) xs (n ∷ []) ∙ ap (λ ys. told_from s xs ++ ys) all ∙ before in
     (elim (x == s) as (λ v. x == s ≡ v → Goal v (y == d)) [
       | true ↦ λ e. (elim (y == d) as (λ w. y == d ≡ w → Goal true w) [ true ↦ λ f. same e f | false ↦ λ f. before ]) refl

@@ -1,5 +1,5 @@
--- Soundness: the dead of a fold of a legal history are a quiet set, for every choice of folded bulletins and every settled
--- set of lost nodes.
+-- Soundness: the dead of a fold of a legal history are a quiet set, for every choice of folded bulletins and every
+-- settled set of lost nodes.
 use Rattle.std.proofs.Common.{◌≡◌, ◌<◌, ◌≤◌, ◌+◌, ◌⊎◌, ℕ, Bool, false, List, [], ◌∷◌, ◌++◌, length, drop, sum_by, IsTrue, sym, ◌∙◌, ap, subst, inl, inr, arith, append_assoc, length-append}
 use Rattle.std.proofs.Math.Seq.{drop-append_seam}
 use Rattle.std.proofs.lemmas.Bool.{cases_lt, lt-ltb}
@@ -26,8 +26,9 @@ use Rattle.history_model.proofs.FoldSumsDead.{dead-member, dead-closed}
 use Rattle.history_model.proofs.FoldSumsStreams.{own-flags}
 use Rattle.history_model.proofs.LinksMail.{admitted-mail, carried-mail}
 use Rattle.history_model.proofs.LinksSums.{tally-sum_by}
-use Rattle.history_model.proofs.SoundnessTold.{is_creation, is_receipt, is_release, is_sending, counts_lost, IsAtRest}
+use Rattle.history_model.proofs.SoundnessTold.{is_creation, is_receipt, is_release, is_sending, counts_lost}
 use Rattle.history_model.proofs.SoundnessQuiet.{told-quiet}
+use Rattle.history_model.proofs.States.{IsAtRest}
 
 -- tails of one list that are equally long are equal
 equal-tails : {A : Type 0} (q p r s : List A) → q ++ p ≡ r ++ s → length p ≡ length s → p ≡ s

@@ -1,5 +1,5 @@
--- Two bounds at each moment of the history: a member past its cut has taken all its mail, and whoever is no member holds
--- no reference to one. `SoundnessStep` uses them at each event, `SoundnessQuiet` at the end.
+-- Two bounds at each moment of the history: a member past its cut has taken all its mail, and whoever is no member
+-- holds no reference to one. `SoundnessStep` uses them at each event, `SoundnessQuiet` at the end.
 use Rattle.std.proofs.Common.{◌≡◌, ◌<◌, ◌≤◌, ◌+◌, ◌⊎◌, ℕ, Bool, false, not, cond, List, ◌++◌, length, sum_by, filter, sym, ◌∙◌, ap, inl, inr, arith}
 use Rattle.std.proofs.lemmas.List.Sums.{sum_by-take-le}
 use Rattle.crgc_ids.specs.Actor.{Actor}

@@ -1,7 +1,7 @@
 -- At the end of the history the members are a quiet set: they are at rest, no live message goes to them or carries a
 -- reference to one, and nobody else holds one. `Soundness` applies this to the dead of a fold.
 use Rattle.std.proofs.Common.{◌≡◌, ◌<◌, ◌≤◌, ◌+◌, ℕ, Bool, true, false, not, cond, List, [], sum_by, filter, IsTrue, refl, sym, ◌∙◌, ap, subst, inl, inr, arith}
-use Rattle.std.proofs.lemmas.Bool.{false≢true}
+use Rattle.std.proofs.lemmas.Bool.{false≢true, cases_Bool}
 use Rattle.std.proofs.lemmas.List.{drop_all}
 use Rattle.std.proofs.lemmas.List.Sums.{sum_by-take-drop}
 use Rattle.crgc_ids.specs.Actor.{Actor}
@@ -16,7 +16,6 @@ use Rattle.history_model.specs.State.{is_up}
 use Rattle.history_model.specs.Legal.{IsLegal}
 use Rattle.history_model.specs.Quiescent.{IsLive, IsOnLink, IsQuietSet}
 use Rattle.history_model.specs.Settled.{AreSettled}
-use Rattle.history_model.proofs.Basics.{true_or_false}
 use Rattle.history_model.proofs.Sums.{all_sent}
 use Rattle.history_model.proofs.AccountsBirths.{born-on_node, mail-born, message_at-among, noted-born, sent-among, sent-born, waiting-among}
 use Rattle.history_model.proofs.AccountsMail.{mail-open, mail-sent}
@@ -53,7 +52,7 @@ got-born cl h legal b a some =
 -- a node that is up is not lost
 up-kept : (cl : Cluster) (c : ℕ → ℕ) (lost : ℕ → Bool) (h : List Event) → AreSettled cl c lost h → (n : ℕ) → IsTrue (is_up n h) → lost n ≡ false
 up-kept cl c lost h settled n up =
-    elim (true_or_false (lost n)) [ inl gone ↦ absurd (false≢true (sym (settled.crashed n gone) ∙ up)) | inr kept ↦ kept ]
+    elim (cases_Bool (lost n)) [ inl gone ↦ absurd (false≢true (sym (settled.crashed n gone) ∙ up)) | inr kept ↦ kept ]
 
 -- ---- messages to members
 
@@ -79,7 +78,7 @@ no_mail : (cl : Cluster) (c : ℕ → ℕ) (lost : ℕ → Bool) (u : Actor → 
 no_mail cl c lost u members h legal settled set told m live member =
     elim live.1 [
       | inl waits ↦ none-waits cl lost u members h legal set told m.to member m waits
-      | inr on ↦ elim (true_or_false (lost m.from.node)) [
+      | inr on ↦ elim (cases_Bool (lost m.from.node)) [
         | inl gone ↦ false≢true (sym (set.placed m.to member) ∙ settled.closed m on gone)
         | inr kept ↦ none-comes cl lost u members h legal set told m member kept on
       ]
@@ -129,7 +128,7 @@ not_carried cl c lost u members h legal settled set told m live a member carries
     let released = given-released cl lost u members h set told m.to a member outside node kept in
     elim live.1 [
       | inl waits ↦ none-kept cl lost h legal m.to a released m waits carries
-      | inr on ↦ elim (true_or_false (lost m.from.node)) [
+      | inr on ↦ elim (cases_Bool (lost m.from.node)) [
         | inl gone ↦ false≢true (sym kept ∙ settled.closed m on gone)
         | inr from_kept ↦ none-brings cl lost h legal a m released from_kept on carries
       ]

@@ -1,24 +1,25 @@
--- One event more: what is noted past the cuts gives nobody access to a member, and members past their cuts stay at rest.
--- So every moment of the history has what `SoundnessTold` calls told, and `SoundnessQuiet` takes the last one.
-use Rattle.std.proofs.Common.{◌≡◌, ◌<◌, ◌≤◌, ℕ, Bool, true, false, not, List, [], ◌∷◌, ◌++◌, length, map, IsFalse, refl, sym, ◌∙◌, subst, inl, inr, arith, append_assoc}
-use Rattle.std.proofs.lemmas.Bool.{cases_lt, cond_both, false≢true}
+-- One event more: what is noted past the cuts gives nobody access to a member, and members past their cuts stay at
+-- rest. So every moment of the history has what `SoundnessTold` calls told, and `SoundnessQuiet` takes the last one.
+use Rattle.std.proofs.Common.{◌≡◌, ◌<◌, ◌≤◌, ℕ, Bool, true, false, not, List, [], ◌∷◌, ◌++◌, length, map, refl, sym, ◌∙◌, subst, inl, inr, arith, append_assoc}
+use Rattle.std.proofs.lemmas.Bool.{cases_lt, false≢true, and_parts, not-true}
 use Rattle.std.proofs.lemmas.List.{drop_all}
 use Rattle.crgc_ids.specs.Actor.{Actor}
 use Rattle.crgc_ids.specs.Members.{IsAmong}
 use Rattle.history_model.specs.declared.events.Event.{Event}
-use Rattle.history_model.specs.declared.events.Event.TheVariants.{Seed, Tie, Wake, Take, Spawn, Send, Drop, Retire, Rest}
+use Rattle.history_model.specs.declared.events.Event.TheVariants.{Seed, Tie, Take, Spawn, Send, Drop}
 use Rattle.history_model.specs.Cluster.{Cluster, same_actor, newborn, is_born}
-use Rattle.history_model.specs.Messages.{mail, takes, waiting}
+use Rattle.history_model.specs.Messages.{mail, takes}
 use Rattle.history_model.specs.Facts.{Fact, received, sent_to, created, released, Note, note_by, notes, message_facts, is_sent_to, is_created}
 use Rattle.history_model.specs.Held.{held}
 use Rattle.history_model.specs.State.{is_busy, is_root}
 use Rattle.history_model.specs.Legal.{IsLegal}
-use Rattle.history_model.proofs.Basics.{and_true, not_true, same_actor-equal, legal-kept, legal-before}
-use Rattle.history_model.proofs.AccountsBirths.{Each, each-none, each-one, each-more, each-map, each-notes_of_spawn, born-grows, born-on_node, newborn-not_born}
+use Rattle.history_model.proofs.Basics.{same_actor-equal, legal-kept, legal-before}
+use Rattle.history_model.proofs.AccountsBirths.{each-notes_of_spawn, born-on_node, newborn-not_born}
 use Rattle.history_model.proofs.FoldSumsNotes.{told-next}
-use Rattle.history_model.proofs.StabilityState.{legal-send, some_waits}
-use Rattle.history_model.proofs.SoundnessTold.{is_sending, is_creation, IsAtRest, IsToldSet, AreTold}
+use Rattle.history_model.proofs.SoundnessTold.{is_sending, is_creation, IsToldSet, AreTold}
 use Rattle.history_model.proofs.SoundnessBounds.{no_take, no_hold}
+use Rattle.history_model.proofs.Lists.{Each, each-none, each-more, each-one, each-map}
+use Rattle.history_model.proofs.States.{legal-send, stays-at_rest}
 
 -- ---- access
 
@@ -33,7 +34,7 @@ sent-access a (sent_to b) t = same_actor-equal b a t
 sent-access a _ t = absurd (false≢true t)
 
 created-access : (b a : Actor) (f : Fact) → is_created b a f ≡ true → GivesAccess a f
-created-access b a (created c d) t = same_actor-equal d a (and_true (same_actor c b) (same_actor d a) t).1
+created-access b a (created c d) t = same_actor-equal d a (and_parts (same_actor c b) (same_actor d a) t).1
 created-access b a _ t = absurd (false≢true t)
 
 -- noted past a cut on a node that is not lost, it gives nobody access to a member
@@ -91,41 +92,6 @@ notes-harmless cl lost u members q (Drop b t) p legal now set told =
     each-one (IsHarmless lost u members p) (note_by b (released b t)) (λ out past a member access. access)
 notes-harmless cl lost u members q e p legal now set told = each-none (IsHarmless lost u members p)
 
--- ---- rest
-
--- an actor at rest that has taken all its mail stays idle
-stays-idle : (cl : Cluster) (e : Event) (p : List Event) → IsLegal cl (e ∷ p) → (a : Actor) → IsAtRest a p → length (mail a p) ≤ takes a p → IsFalse (is_busy a (e ∷ p))
-stays-idle cl (Wake b) p legal a rest all =
-    let root : is_root b p ≡ true = (legal-kept cl (Wake b) p legal).1.1.0 in
-    cond_both (same_actor b a) true (is_busy a p) (λ v. v ≡ false)
-    (λ same. absurd (false≢true (sym rest.2 ∙ subst (λ c. is_root c p ≡ true) (same_actor-equal b a same) root)))
-    (λ _. rest.1)
-stays-idle cl (Take b) p legal a rest all =
-    let some = some_waits (waiting b p) (legal-kept cl (Take b) p legal).1.1.1.0 in
-    let none : waiting a p ≡ [] = drop_all (takes a p) (mail a p) all in
-    cond_both (same_actor b a) true (is_busy a p) (λ v. v ≡ false)
-    (λ same.
-    let first : waiting a p ≡ some.0 ∷ some.1 = subst (λ c. waiting c p ≡ some.0 ∷ some.1) (same_actor-equal b a same) some.2 in
-    absurd (cc))
-    (λ _. rest.1)
-stays-idle cl (Rest b) p legal a rest all =
-    cond_both (same_actor b a) false (is_busy a p) (λ v. v ≡ false) (λ _. refl) (λ _. rest.1)
-stays-idle cl _ p legal a rest all = rest.1
-
--- it stays no root
-stays-no_root : (e : Event) (p : List Event) (a : Actor) → IsAtRest a p → IsFalse (is_root a (e ∷ p))
-stays-no_root (Seed n) p a rest =
-    cond_both (same_actor (newborn n p) a) true (is_root a p) (λ v. v ≡ false)
-    (λ same. absurd (false≢true (sym (newborn-not_born n p) ∙ subst (λ b. is_born b p ≡ true) (sym (same_actor-equal (newborn n p) a same)) rest.0)))
-    (λ _. rest.2)
-stays-no_root (Retire b) p a rest =
-    cond_both (same_actor b a) false (is_root a p) (λ v. v ≡ false) (λ _. refl) (λ _. rest.2)
-stays-no_root _ p a rest = rest.2
-
-stays-at_rest : (cl : Cluster) (e : Event) (p : List Event) → IsLegal cl (e ∷ p) → (a : Actor) → IsAtRest a p → length (mail a p) ≤ takes a p → IsAtRest a (e ∷ p)
-stays-at_rest cl e p legal a rest all =
-    (born-grows a (e ∷ []) p rest.0, stays-idle cl e p legal a rest all, stays-no_root e p a rest)
-
 -- ---- moments
 
 -- what is told at a moment is told after the next event
@@ -141,14 +107,16 @@ told-step cl lost u members q e p legal set told =
     record {
       rest = λ a member past. elim (cases_lt (length p) (u a)) [
         | inl cut ↦ set.at_cut a member q (e ∷ p) refl (omega (arith, cut, past))
-        | inr before ↦ stays-at_rest cl e p now a (told.rest a member before) (no_take cl lost u members (q ++ (e ∷ [])) p legal_p set_p told a member before)
+        | inr before ↦ stays-at_rest cl e p now a (told.rest a member before) (λ _ m waits.
+            let all = no_take cl lost u members (q ++ (e ∷ [])) p legal_p set_p told a member before in
+            subst (IsAmong m) (drop_all (takes a p) (mail a p) all) waits)
       ];
       sendings = λ a member. told-next cl u (is_sending lost a) e p (λ x among test.
-          let both = and_true (not (lost x.by.node)) (is_sent_to a x.fact) test in
-          below a member x among (not_true (lost x.by.node) both.0) (sent-access a x.fact both.1)) (told.sendings a member);
+          let both = and_parts (not (lost x.by.node)) (is_sent_to a x.fact) test in
+          below a member x among (not-true (lost x.by.node) both.0) (sent-access a x.fact both.1)) (told.sendings a member);
       creations = λ b a member. told-next cl u (is_creation lost b a) e p (λ x among test.
-          let both = and_true (not (lost x.by.node)) (is_created b a x.fact) test in
-          below a member x among (not_true (lost x.by.node) both.0) (created-access b a x.fact both.1)) (told.creations b a member);
+          let both = and_parts (not (lost x.by.node)) (is_created b a x.fact) test in
+          below a member x among (not-true (lost x.by.node) both.0) (created-access b a x.fact both.1)) (told.creations b a member);
     }
 
 -- so it holds at every moment

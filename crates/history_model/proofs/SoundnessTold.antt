@@ -1,17 +1,17 @@
 -- What the core of soundness stands on: a history, a set of actors, and the positions below which what actors noted is
 -- told. Every moment of the history is judged with these; `SoundnessBounds` gives what they bound there.
-use Rattle.std.proofs.Common.{◌≡◌, ◌<◌, ◌≤◌, ◌+◌, ◌&&◌, ◌⊎◌, ℕ, Bool, false, not, cond, List, ◌++◌, length, sum_by, IsTrue, IsFalse, sym, subst, arith}
+use Rattle.std.proofs.Common.{◌≡◌, ◌<◌, ◌≤◌, ◌+◌, ◌&&◌, ◌⊎◌, ℕ, Bool, false, not, cond, List, ◌++◌, length, sum_by, sym, subst, arith}
 use Rattle.crgc_ids.specs.Actor.{Actor}
 use Rattle.crgc_ids.specs.Members.{IsAmong}
 use Rattle.history_model.specs.declared.events.Event.{Event}
-use Rattle.history_model.specs.Cluster.{Cluster, is_born}
+use Rattle.history_model.specs.Cluster.{Cluster}
 use Rattle.history_model.specs.Messages.{Message, mail, takes}
 use Rattle.history_model.specs.Facts.{Note, is_received, is_sent_to, is_created, is_released}
 use Rattle.history_model.specs.Held.{gave}
-use Rattle.history_model.specs.State.{is_busy, is_root}
 use Rattle.history_model.proofs.Sums.{noted_sum, told_sum}
 use Rattle.history_model.proofs.AccountsNotes.{carries_from, released-noted, received-noted}
 use Rattle.history_model.proofs.FoldSumsNotes.{AreToldBelow, told-noted, told-below, noter-received, noter-released}
+use Rattle.history_model.proofs.States.{IsAtRest}
 
 -- ---- the notes that are counted
 
@@ -34,10 +34,6 @@ abbrev pub counts_lost : (ℕ → Bool) → Message → ℕ
 counts_lost lost m = cond (lost m.from.node) 1 0
 
 -- ---- premises
-
--- born, idle and no root
-abbrev pub IsAtRest : Actor → List Event → Type 0
-IsAtRest a p = IsTrue (is_born a p) × IsFalse (is_busy a p) × IsFalse (is_root a p)
 
 -- the members are at rest where they are told up to; they received as much as was told or admitted for them; and whoever
 -- was given more references to a member than it is told to have released is a member

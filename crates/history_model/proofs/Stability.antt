@@ -1,4 +1,5 @@
 -- A quiet set stays quiet: in every longer legal history nobody outside it can use its members, and none of them acts.
+-- So whom a sweep stopped is quiescent ever after (`Stopped`).
 use Rattle.std.proofs.Common.{List, [], ◌∷◌, ◌++◌, refl, sym, ◌∙◌, subst, inl, inr, arith}
 use Rattle.std.proofs.lemmas.Bool.{false≢true}
 use Rattle.crgc_ids.specs.Actor.{Actor}
@@ -9,11 +10,10 @@ use Rattle.history_model.specs.Cluster.{Cluster}
 use Rattle.history_model.specs.Messages.{Message}
 use Rattle.history_model.specs.Legal.{IsLegal}
 use Rattle.history_model.specs.Quiescent.{IsLive, IsQuietSet, IsQuiescent}
-use Rattle.history_model.proofs.AccountsBirths.{born-grows}
 use Rattle.history_model.proofs.AccountsGrowth.{up-before}
 use Rattle.history_model.proofs.StabilityHeld.{held-next}
 use Rattle.history_model.proofs.StabilityMessages.{IsSent, live-next}
-use Rattle.history_model.proofs.StabilityState.{idle-next, legal-send, no_root-next}
+use Rattle.history_model.proofs.States.{legal-send, IsAtRest, stays-at_rest, waiting-live}
 
 -- a sender is busy and holds all that it names, so it names no member
 sent-outside : (cl : Cluster) (e : Event) (p : List Event) (q : List Actor) → IsLegal cl (e ∷ p) → IsQuietSet cl p q → (m : Message) → IsSent e m
@@ -37,12 +37,19 @@ live-outside cl e p q legal quiet m live a named member =
       ]
     ]
 
+-- a member stays at rest, since no message waits for it
+member-rests : (cl : Cluster) (e : Event) (p : List Event) (q : List Actor) → IsLegal cl (e ∷ p) → IsQuietSet cl p q → (a : Actor) → IsAmong a q → IsAtRest a (e ∷ p)
+member-rests cl e p q legal quiet a member =
+    stays-at_rest cl e p legal a (quiet.born a member, quiet.idle a member, quiet.no_root a member) (λ up m waits.
+    let live = waiting-live p a up m waits in
+    quiet.no_mail m live.0 (subst (λ b. IsAmong b q) (sym live.1) member))
+
 -- a quiet set stays quiet after the next legal event
 pub stability-step : (cl : Cluster) (e : Event) (p : List Event) (q : List Actor) → IsLegal cl (e ∷ p) → IsQuietSet cl p q → IsQuietSet cl (e ∷ p) q
 stability-step cl e p q legal quiet = record {
-  born = λ a member. born-grows a (e ∷ []) p (quiet.born a member);
-  idle = idle-next cl e p q legal quiet;
-  no_root = no_root-next cl e p q quiet;
+  born = λ a member. (member-rests cl e p q legal quiet a member).0;
+  idle = λ a member. (member-rests cl e p q legal quiet a member).1;
+  no_root = λ a member. (member-rests cl e p q legal quiet a member).2;
   no_mail = λ m live member. live-outside cl e p q legal quiet m live m.to (inl refl) member;
   not_carried = λ m live a member carried. live-outside cl e p q legal quiet m live a (inr carried) member;
   holders = λ b a member up some.

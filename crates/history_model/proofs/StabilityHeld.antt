@@ -1,5 +1,6 @@
--- The next event of a legal history gives nobody a reference to a member of a quiet set.
-use Rattle.std.proofs.Common.{◌≡◌, ◌≤◌, ◌+◌, ◌==◌, ℕ, zero, suc, true, List, [], ◌∷◌, take, drop, refl, sym, ◌∙◌, ap, subst, arith, if◌then◌else◌, filter, add-one, add-zero}
+-- The next event of a legal history gives nobody a reference to a member of a quiet set: nobody gives one, and no
+-- message that is taken carries one.
+use Rattle.std.proofs.Common.{inl, ◌≡◌, ◌≤◌, ◌+◌, ◌==◌, ℕ, zero, suc, true, List, [], ◌∷◌, take, drop, refl, sym, ◌∙◌, ap, subst, arith, if◌then◌else◌, filter, add-one, add-zero}
 use Rattle.std.proofs.lemmas.Bool.{and_right, cond_both, false_from_ne_true, false≢true}
 use Rattle.std.proofs.lemmas.List.{take-append-le}
 use Rattle.crgc_ids.specs.Actor.{Actor}
@@ -17,9 +18,8 @@ use Rattle.history_model.specs.Quiescent.{IsQuietSet}
 use Rattle.history_model.proofs.Basics.{legal-kept, same_actor-equal}
 use Rattle.history_model.proofs.AccountsBirths.{newborn-not_born}
 use Rattle.history_model.proofs.AccountsTaken.{takes-mail}
-use Rattle.history_model.proofs.FoldSumsNotes.{tally-none}
-use Rattle.history_model.proofs.StabilityMessages.{tally-more}
-use Rattle.history_model.proofs.StabilityState.{some_waits, take-live}
+use Rattle.history_model.proofs.Lists.{tally-more, tally-none}
+use Rattle.history_model.proofs.States.{some_waits, waiting-live}
 
 -- ---- gifts
 
@@ -63,7 +63,7 @@ gifts-next cl _ p q legal quiet b a member = refl
 -- an actor that is not among the references is not counted there
 pub tally-absent : (a : Actor) (xs : List Actor) → ¬ IsAmong a xs → tally (same_actor a) xs ≡ 0
 tally-absent a xs none =
-    tally-none (same_actor a) xs (λ x among same. none (subst (λ y. IsAmong y xs) (sym (same_actor-equal a x same)) among))
+    tally-none (same_actor a) xs (λ x among. false_from_ne_true (same_actor a x) (λ same. none (subst (λ y. IsAmong y xs) (sym (same_actor-equal a x same)) among)))
 
 -- the next message that is taken is the first that waits
 carried-take_suc : (a : Actor) (n : ℕ) (xs : List Message) (m : Message) (ms : List Message) → drop n xs ≡ m ∷ ms
@@ -83,7 +83,7 @@ carried-next : (cl : Cluster) (e : Event) (p : List Event) (q : List Actor) → 
     → carried a (taken b (e ∷ p)) ≡ carried a (taken b p)
 carried-next cl (Take x) p q legal quiet b a member =
     let some = some_waits (waiting x p) (legal-kept cl (Take x) p legal).1.1.1.0 in
-    let live = take-live cl x p legal some.0 some.1 some.2 in
+    let live = waiting-live p x (legal-kept cl (Take x) p legal).1.0 some.0 (subst (IsAmong some.0) (sym some.2) (inl refl)) in
     let none = tally-absent a some.0.refs (quiet.not_carried some.0 live.0 a member) in
     let Same : ℕ → Type 0 = λ n. carried a (take n (mail b p)) ≡ carried a (taken b p) in
     cond_both (same_actor x b) (takes b p + 1) (takes b p) Same

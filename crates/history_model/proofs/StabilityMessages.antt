@@ -1,6 +1,7 @@
--- What is live after the next event of a legal history was live before, or is the message that the event sends.
+-- What is live after the next event of a legal history was live before, or is the message that the event sends. So
+-- `Stability` need look at senders alone.
 use Rattle.std.proofs.Common.{◌≡◌, ◌≢◌, ◌<◌, ◌≤◌, ◌+◌, ◌-◌, ◌&&◌, ◌⊎◌, ◌==◌, ℕ, zero, suc, Bool, true, false, List, [], ◌∷◌, ◌++◌, length, drop, refl, sym, ◌∙◌, ap, subst, inl, inr, arith, IsFalse, if◌then◌else◌, nat_lt, filter, slice_get, option_to_list, Option, Some, None, add-one}
-use Rattle.std.proofs.lemmas.Bool.{cond_both, false≢true, or_parts}
+use Rattle.std.proofs.lemmas.Bool.{cond_both, false≢true, or_parts, not-true}
 use Rattle.std.proofs.lemmas.Bool.Decides.{Decides-eqb, Decides-ltb}
 use Rattle.std.proofs.lemmas.List.{drop-append-le}
 use Rattle.crgc_ids.specs.Actor.{Actor}
@@ -13,11 +14,12 @@ use Rattle.history_model.specs.Cluster.{Cluster, same_actor}
 use Rattle.history_model.specs.Messages.{Message, sent, message_at, is_admit, is_lose, is_repeat, is_removal, was_admitted, admitted_by, is_to, mail, takes, waiting, copies, is_closed}
 use Rattle.history_model.specs.Legal.{IsLegal}
 use Rattle.history_model.specs.Quiescent.{IsOnLink, IsLive}
-use Rattle.history_model.proofs.Basics.{legal-kept, not_true, tally-append}
+use Rattle.history_model.proofs.Basics.{legal-kept}
 use Rattle.history_model.proofs.AccountsBirths.{message_at-among, sent-among}
 use Rattle.history_model.proofs.AccountsCopies.{same_number}
 use Rattle.history_model.proofs.AccountsGrowth.{up-before}
 use Rattle.history_model.proofs.AccountsTaken.{takes-mail}
+use Rattle.history_model.proofs.Lists.{tally-more}
 
 -- the message is the one that the event sends
 abbrev pub IsSent : Event → Message → Type 0
@@ -74,10 +76,10 @@ admitted-on_link cl s d k p legal m among =
     let here : On s d = (
       k,
       one_at m (slice_get (sent s d p) k) admitted.1,
-      not_true (is_closed s d p) kept.1.1.1.1.0,
+      not-true (is_closed s d p) kept.1.1.1.1.0,
       admitted.0,
       (Decides-ltb 0 (copies s d k p)).0 kept.1.1.1.1.1.0,
-      λ e. false≢true (sym (not_true (s == d) kept.1.1.0) ∙ (Decides-eqb s d).1 e),
+      λ e. false≢true (sym (not-true (s == d) kept.1.1.0) ∙ (Decides-eqb s d).1 e),
     ) in
     subst (λ x. On x m.to.node) (sym ends.1) (subst (On s) (sym ends.2) here)
 
@@ -90,10 +92,6 @@ admitted-source cl (Send f t refs) p legal m among =
     (λ _ one. elim one [ inl e ↦ inr e | inr none ↦ absurd none ]) (λ _ none. absurd none) among
 admitted-source cl (Admit s d k) p legal m among = inl (admitted-on_link cl s d k p legal m among)
 admitted-source cl _ p legal m among = absurd among
-
--- a count does not fall
-pub tally-more : {X : Type 0} (test : X → Bool) (x : X) (xs : List X) → tally test xs ≤ tally test (x ∷ xs)
-tally-more test x xs = omega (arith, tally-append test (x ∷ []) xs)
 
 -- a place of a list with one more item at its end is a place of the list, or has that item
 slice_get-push : {A : Type 0} (xs : List A) (x : A) (k : ℕ)

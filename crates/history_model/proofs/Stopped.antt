@@ -1,7 +1,7 @@
--- Stopped actors: whom a sweep stopped is quiescent ever after, and after a sweep at a quiet point the stopped actors of
--- the node are exactly its quiescent ones.
+-- Stopped actors: whom a sweep stopped is quiescent ever after, and after a sweep at a quiet point the stopped actors
+-- of the node are exactly its quiescent ones.
 use Rattle.std.proofs.Common.{◌≡◌, ◌↔◌, ◌==◌, ℕ, true, List, [], ◌∷◌, ◌∙◌, ap, inl, inr}
-use Rattle.std.proofs.lemmas.Bool.{and_from, false≢true, or_left, ltb-true}
+use Rattle.std.proofs.lemmas.Bool.{and_from, false≢true, or_left, and_parts, or_cases}
 use Rattle.crgc_ids.specs.Actor.{Actor}
 use Rattle.history_model.specs.declared.events.Event.{Event}
 use Rattle.history_model.specs.declared.events.Event.TheVariants.{Sweep}
@@ -11,7 +11,7 @@ use Rattle.history_model.specs.Graph.{holds_actor}
 use Rattle.history_model.specs.Sweeps.{dead_at, is_swept, is_stopped}
 use Rattle.history_model.specs.Legal.{IsLegal}
 use Rattle.history_model.specs.Quiescent.{IsQuietPoint, IsQuietSet, IsQuiescent}
-use Rattle.history_model.proofs.Basics.{and_true, eqb-refl, legal-kept, or_true}
+use Rattle.history_model.proofs.Basics.{eqb-refl}
 use Rattle.history_model.proofs.Completeness.{completeness}
 use Rattle.history_model.proofs.FoldSumsKnown.{holds-among}
 use Rattle.history_model.proofs.LinksSettled.{settled}
@@ -26,36 +26,21 @@ dead_at-quiet cl m h legal =
 -- whom a sweep finds is quiescent
 swept-quiescent : (cl : Cluster) (m : ℕ) (h : List Event) (a : Actor) → IsLegal cl h → is_swept cl m h a ≡ true → IsQuiescent cl h a
 swept-quiescent cl m h a legal swept =
-    let found = (and_true (a.node == m) (holds_actor (dead_at cl m h) a) swept).1 in
+    let found = (and_parts (a.node == m) (holds_actor (dead_at cl m h) a) swept).1 in
     (dead_at cl m h, (holds-among (dead_at cl m h) a).0 found, dead_at-quiet cl m h legal)
 
 -- whom a sweep stopped is quiescent ever after
 pub stopped-quiescent : (cl : Cluster) (h : List Event) (a : Actor) → IsLegal cl h → is_stopped cl a h ≡ true → IsQuiescent cl h a
 stopped-quiescent cl [] a legal stopped = absurd (false≢true stopped)
 stopped-quiescent cl (Sweep m ∷ p) a legal stopped =
-    quiescent-stays cl (Sweep m ∷ []) p a legal (elim (or_true (is_swept cl m p a) (is_stopped cl a p) stopped) [
+    quiescent-stays cl (Sweep m ∷ []) p a legal (elim (or_cases (is_swept cl m p a) (is_stopped cl a p) stopped) [
       | inl now ↦ swept-quiescent cl m p a legal.1 now
       | inr before ↦ stopped-quiescent cl p a legal.1 before
     ])
 stopped-quiescent cl (e ∷ p) a legal stopped = quiescent-stays cl (e ∷ []) p a legal (stopped-quiescent cl p a legal.1 stopped)
 
--- after a sweep at a quiet point exactly the quiescent actors of the node are stopped
-pub quiet-stopped : (cl : Cluster) (m : ℕ) (h : List Event) → IsLegal cl (Sweep m ∷ h) → IsQuietPoint cl m h → (a : Actor) → a.node ≡ m
-    → (is_stopped cl a (Sweep m ∷ h) ≡ true) ↔ IsQuiescent cl h a
-quiet-stopped cl m h legal quiet a on = (
-  λ stopped. elim (or_true (is_swept cl m h a) (is_stopped cl a h) stopped) [
-    | inl now ↦ swept-quiescent cl m h a legal.1 now
-    | inr before ↦ stopped-quiescent cl h a legal.1 before
-  ],
-  λ quiescent.
-      let here = ltb-true m cl.nodes (legal-kept cl (Sweep m) h legal).0 in
-      let dead = completeness cl m h legal.1 here quiet a on quiescent in
-      let own : a.node == m ≡ true = ap (λ n. n == m) on ∙ eqb-refl m in
-      or_left (is_swept cl m h a) (is_stopped cl a h) (and_from (a.node == m) (holds_actor (dead_at cl m h) a) own ((holds-among (dead_at cl m h) a).1 dead)),
-)
-
--- the sweep itself changes nothing of this
-pub sweep-quiescent : (cl : Cluster) (m : ℕ) (h : List Event) (a : Actor) → IsQuiescent cl (Sweep m ∷ h) a → IsQuiescent cl h a
+-- a sweep makes nobody quiescent
+sweep-quiescent : (cl : Cluster) (m : ℕ) (h : List Event) (a : Actor) → IsQuiescent cl (Sweep m ∷ h) a → IsQuiescent cl h a
 sweep-quiescent cl m h a quiescent =
     let set = quiescent.2 in (
       quiescent.0,
@@ -69,3 +54,14 @@ sweep-quiescent cl m h a quiescent =
         holders = set.holders;
       },
     )
+
+-- after a sweep at a quiet point exactly the quiescent actors of the node are stopped
+pub quiet-stopped : (cl : Cluster) (m : ℕ) (h : List Event) (a : Actor) → IsLegal cl (Sweep m ∷ h) → IsQuietPoint cl m h → a.node ≡ m
+    → (is_stopped cl a (Sweep m ∷ h) ≡ true) ↔ IsQuiescent cl (Sweep m ∷ h) a
+quiet-stopped cl m h a legal quiet on = (
+  stopped-quiescent cl (Sweep m ∷ h) a legal,
+  λ quiescent.
+      let dead = completeness cl m h a legal.1 quiet on (sweep-quiescent cl m h a quiescent) in
+      let own : a.node == m ≡ true = ap (λ n. n == m) on ∙ eqb-refl m in
+      or_left (is_swept cl m h a) (is_stopped cl a h) (and_from (a.node == m) (holds_actor (dead_at cl m h) a) own ((holds-among (dead_at cl m h) a).1 dead)),
+)

@@ -1,5 +1,5 @@
 -- The constants of a cluster, and the actors born in it. Every history is a list of events, the newest first.
-use Rattle.std.specs.Prelude.{ℕ, ◌==◌, Bool, false, ◌&&◌, nat_lt, List}
+use Rattle.std.specs.Prelude.{ℕ, ◌==◌, Bool, false, nat_lt, List}
 use Rattle.crgc_ids.specs.Actor.{Actor}
 pub use Rattle.crgc_ids.specs.Actor.{same_actor}
 use Rattle.history_model.specs.declared.events.Event.{Event}

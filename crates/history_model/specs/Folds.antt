@@ -1,12 +1,12 @@
 -- Folds: what a collector has read of each origin's stream, and the nodes that it finds lost.
-use Rattle.std.specs.Prelude.{ℕ, zero, suc, ◌+◌, ◌==◌, Bool, true, false, ◌&&◌, ◌||◌, not, if◌then◌else◌, nat_lt, List, [], ◌∷◌, ◌++◌, length, take, flat_map}
+use Rattle.std.specs.Prelude.{ℕ, zero, suc, ◌==◌, Bool, false, ◌&&◌, if◌then◌else◌, List, [], ◌∷◌, length, take, flat_map}
 use Rattle.std.specs.List.{list_any}
 use Rattle.crgc_ids.specs.LostNodes.{lost_nodes}
 use Rattle.crgc_ids.specs.Nodes.{nodes_below, has_node}
 use Rattle.history_model.specs.declared.events.Event.{Event}
 use Rattle.history_model.specs.declared.events.Event.TheVariants.{Hand}
 use Rattle.history_model.specs.Cluster.{Cluster}
-use Rattle.history_model.specs.Streams.{Notice, delta, window_of, final_of, stream}
+use Rattle.history_model.specs.Streams.{Notice, final_of, stream}
 
 -- what is folded of each origin: the first bulletins of its stream
 abbrev pub Fold : Type 0

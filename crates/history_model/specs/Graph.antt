@@ -1,13 +1,13 @@
 -- Balance, edges and the dead of a fold. `lost` tells the nodes that are taken as lost; what they told does not
 -- count, and what others admitted from them counts in its place.
-use Rattle.std.specs.Prelude.{ℕ, zero, suc, ◌+◌, ◌==◌, Bool, true, false, ◌&&◌, ◌||◌, not, if◌then◌else◌, nat_lt, List, [], ◌∷◌, ◌++◌, Option, Some, None, unwrap_or, flat_map}
+use Rattle.std.specs.Prelude.{ℕ, ◌+◌, ◌==◌, Bool, true, ◌&&◌, ◌||◌, not, if◌then◌else◌, nat_lt, List, [], ◌∷◌, ◌++◌, Option, Some, None, unwrap_or, flat_map}
 use Rattle.std.specs.List.{list_any, list_all, filter}
 use Rattle.crgc_ids.specs.Actor.{Actor, is_actor_below}
 use Rattle.crgc_ids.specs.Greatest.{greatest}
 use Rattle.crgc_ids.specs.Nodes.{nodes_below}
 use Rattle.history_model.specs.Tally.{tally}
 use Rattle.history_model.specs.Cluster.{Cluster, same_actor}
-use Rattle.history_model.specs.Facts.{Flags, Fact, received, sent_to, created, released, flagged, is_received, is_sent_to, is_created, is_released, names}
+use Rattle.history_model.specs.Facts.{Flags, Fact, received, sent_to, created, released, flagged, is_received, is_sent_to, is_created, is_released}
 use Rattle.history_model.specs.Streams.{Notice, delta, window_of, final_of}
 use Rattle.history_model.specs.Folds.{Fold}
 

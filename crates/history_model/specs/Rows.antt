@@ -1,12 +1,12 @@
 -- The definitions, computed on worked histories: legality, cuts, lost nodes and stops with their evidence.
-use Rattle.std.specs.Prelude.{◌≡◌, ℕ, ◌==◌, Bool, true, false, ◌&&◌, List, [], ◌∷◌, ◌++◌, map, reverse, refl, is_none, length, codes}
+use Rattle.std.specs.Prelude.{◌≡◌, ℕ, Bool, true, ◌&&◌, List, [], ◌∷◌, map, refl, is_none, length, codes}
 use Rattle.std.specs.Fmt.{digits}
 use Rattle.crgc_ids.specs.Actor.{Actor}
 use Rattle.crgc_ids.specs.Greatest.{greatest}
 use Rattle.crgc_ids.specs.LostNodes.{lost_nodes}
 use Rattle.crgc_ids.specs.Nodes.{nodes_below}
 use Rattle.history_model.specs.declared.events.Event.{Event}
-use Rattle.history_model.specs.declared.events.Event.TheVariants.{Seed, Tie, Wake, Take, Spawn, Send, Drop, Retire, Rest, Flush, Publish, Window, Admit, Lose, Repeat, Crash, Remove, Hand, Sweep}
+use Rattle.history_model.specs.declared.events.Event.TheVariants.{Seed, Tie, Wake, Take, Spawn, Send, Drop, Retire, Rest, Flush, Publish, Admit, Lose, Crash, Remove, Hand, Sweep}
 use Rattle.history_model.specs.declared.records.Stop.{Stop}
 use Rattle.history_model.specs.Cluster.{Cluster}
 use Rattle.history_model.specs.Folds.{cut_at, lost_of, folded}

@@ -1,10 +1,10 @@
 -- Sweeps: what the collector of a node stops, and which actors are stopped.
-use Rattle.std.specs.Prelude.{ℕ, ◌≡◌, ◌<◌, ◌≤◌, ◌==◌, Bool, true, false, ◌&&◌, ◌||◌, not, List, [], ◌∷◌, map, slice_index}
+use Rattle.std.specs.Prelude.{ℕ, ◌≡◌, ◌<◌, ◌≤◌, ◌==◌, Bool, false, ◌&&◌, ◌||◌, not, List, [], ◌∷◌, map, slice_index}
 use Rattle.std.specs.List.{filter}
 use Rattle.crgc_ids.specs.Actor.{Actor}
 use Rattle.history_model.specs.declared.events.Event.{Event}
 use Rattle.history_model.specs.declared.events.Event.TheVariants.{Sweep}
-use Rattle.history_model.specs.Cluster.{Cluster, same_actor}
+use Rattle.history_model.specs.Cluster.{Cluster}
 use Rattle.history_model.specs.declared.records.Stop.{Stop}
 use Rattle.history_model.specs.declared.records.Verdict.{Verdict}
 use Rattle.history_model.specs.Folds.{Fold, cut_at, lost_of, folded, is_lost}

@@ -3,6 +3,7 @@
 
 mod events;
 mod history;
+pub mod laws;
 mod records;
 
 pub use events::{Event, Rule};

@@ -1,4 +1,5 @@
--- What the next event of a legal history does to births, to nodes, and to the flags of the members of a quiet set.
+-- What the rules of a send say, and that an idle actor that is no root stays so where no message waits for it.
+-- Soundness uses this of the dead past their cuts, and stability of the members of a quiet set.
 use Rattle.std.proofs.Common.{◌≡◌, ◌<◌, true, false, not, List, [], ◌∷◌, ◌++◌, map, refl, sym, ◌∙◌, subst, inl, inr, IsTrue, IsFalse, nat_lt}
 use Rattle.std.proofs.lemmas.Bool.{cond_both, false≢true}
 use Rattle.std.proofs.lemmas.Bool.Decides.{Decides-ltb}
@@ -12,9 +13,9 @@ use Rattle.history_model.specs.Held.{held}
 use Rattle.history_model.specs.State.{is_busy, is_root, is_up}
 use Rattle.history_model.specs.Legal.{Check, check, born_all, held_all, node_up, has_nothing, IsLegal}
 use Rattle.history_model.specs.declared.events.Rule.TheVariants.{NoActor, NotHeld, Idle}
-use Rattle.history_model.specs.Quiescent.{IsLive, IsQuietSet}
+use Rattle.history_model.specs.Quiescent.{IsLive}
 use Rattle.history_model.proofs.Basics.{AreKept, legal-kept, same_actor-equal}
-use Rattle.history_model.proofs.AccountsBirths.{mail-among, newborn-not_born, waiting-among}
+use Rattle.history_model.proofs.AccountsBirths.{mail-among, newborn-not_born, waiting-among, born-grows}
 
 -- ---- rules that are lists
 
@@ -47,49 +48,59 @@ legal-send cl f t refs p legal =
       holds = λ a among. (Decides-ltb 0 (held cl f a p)).0 (AreKept-map (λ x. check NotHeld (nat_lt 0 (held cl f x p))) (t ∷ refs) both.1.1.1 a among);
     }
 
--- ---- flags
+-- ---- mail
 
 -- a message waits where a take is allowed
 pub some_waits : (xs : List Message) → not (has_nothing xs) ≡ true → (m : Message) × (ms : List Message) × (xs ≡ m ∷ ms)
 some_waits [] t = absurd (false≢true t)
 some_waits (m ∷ ms) t = (m, ms, refl)
 
--- where a take is allowed, the first waiting message is live
-pub take-live : (cl : Cluster) (b : Actor) (p : List Event) → IsLegal cl (Take b ∷ p) → (m : Message) (ms : List Message) → waiting b p ≡ m ∷ ms
-    → IsLive p m × (m.to ≡ b)
-take-live cl b p legal m ms first =
-    let kept = legal-kept cl (Take b) p legal in
-    let waits : IsAmong m (waiting b p) = subst (IsAmong m) (sym first) (inl refl) in
-    let to : m.to ≡ b = (mail-among b p m (waiting-among b p m waits)).1 in
-    let Live : Actor → Type 0 = λ x. IsTrue (is_up x.node p) × IsAmong m (waiting x p) in
-    let live = subst Live (sym to) (kept.1.0, waits) in
-    ((live.0, inl live.1), to)
+-- what waits for an actor on a node that is up is live
+pub waiting-live : (h : List Event) (b : Actor) → IsTrue (is_up b.node h) → (x : Message) → IsAmong x (waiting b h) → IsLive h x × (x.to ≡ b)
+waiting-live h b up x waits =
+    let to = (mail-among b h x (waiting-among b h x waits)).1 in
+    let Waits : Actor → Type 0 = λ a. IsTrue (is_up a.node h) × IsAmong x (waiting a h) in
+    let there = subst Waits (sym to) (up, waits) in
+    ((there.0, inl there.1), to)
 
--- a member of a quiet set stays idle: it is no root that could wake, and has no message to take
-pub idle-next : (cl : Cluster) (e : Event) (p : List Event) (q : List Actor) → IsLegal cl (e ∷ p) → IsQuietSet cl p q → (a : Actor) → IsAmong a q
+-- ---- rest
+
+-- born, idle and no root
+abbrev pub IsAtRest : Actor → List Event → Type 0
+IsAtRest a p = IsTrue (is_born a p) × IsFalse (is_busy a p) × IsFalse (is_root a p)
+
+-- no root can wake, and without a message none can take
+stays-idle : (cl : Cluster) (e : Event) (p : List Event) → IsLegal cl (e ∷ p) → (a : Actor) → IsAtRest a p → (IsTrue (is_up a.node p) → (m : Message) → ¬ IsAmong m (waiting a p))
     → IsFalse (is_busy a (e ∷ p))
-idle-next cl (Wake b) p q legal quiet a member =
-    let root = (legal-kept cl (Wake b) p legal).1.1.0 in
+stays-idle cl (Wake b) p legal a rest none =
+    let root : is_root b p ≡ true = (legal-kept cl (Wake b) p legal).1.1.0 in
     cond_both (same_actor b a) true (is_busy a p) (λ v. v ≡ false)
-    (λ s. absurd (false≢true (sym (quiet.no_root a member) ∙ subst (λ x. is_root x p ≡ true) (same_actor-equal b a s) root)))
-    (λ _. quiet.idle a member)
-idle-next cl (Take b) p q legal quiet a member =
-    let some = some_waits (waiting b p) (legal-kept cl (Take b) p legal).1.1.1.0 in
-    let live = take-live cl b p legal some.0 some.1 some.2 in
+    (λ same. absurd (false≢true (sym rest.2 ∙ subst (λ c. is_root c p ≡ true) (same_actor-equal b a same) root)))
+    (λ _. rest.1)
+stays-idle cl (Take b) p legal a rest none =
+    let kept = legal-kept cl (Take b) p legal in
+    let some = some_waits (waiting b p) kept.1.1.1.0 in
+    let first : IsAmong some.0 (waiting b p) = subst (IsAmong some.0) (sym some.2) (inl refl) in
+    let Waits : Actor → Type 0 = λ c. IsTrue (is_up c.node p) × IsAmong some.0 (waiting c p) in
     cond_both (same_actor b a) true (is_busy a p) (λ v. v ≡ false)
-    (λ s. absurd (quiet.no_mail some.0 live.0 (subst (λ x. IsAmong x q) (sym (live.1 ∙ same_actor-equal b a s)) member)))
-    (λ _. quiet.idle a member)
-idle-next cl (Rest b) p q legal quiet a member =
-    cond_both (same_actor b a) false (is_busy a p) (λ v. v ≡ false) (λ _. refl) (λ _. quiet.idle a member)
-idle-next cl _ p q legal quiet a member = quiet.idle a member
+    (λ same. (let waits = subst Waits (same_actor-equal b a same) (kept.1.0, first) in absurd (none waits.0 some.0 waits.1)))
+    (λ _. rest.1)
+stays-idle cl (Rest b) p legal a rest none =
+    cond_both (same_actor b a) false (is_busy a p) (λ v. v ≡ false) (λ _. refl) (λ _. rest.1)
+stays-idle cl _ p legal a rest none = rest.1
 
--- it stays no root: a seed gives an actor that was not born
-pub no_root-next : (cl : Cluster) (e : Event) (p : List Event) (q : List Actor) → IsQuietSet cl p q → (a : Actor) → IsAmong a q
-    → IsFalse (is_root a (e ∷ p))
-no_root-next cl (Seed n) p q quiet a member =
+-- a birth makes no born actor a root
+stays-no_root : (e : Event) (p : List Event) (a : Actor) → IsAtRest a p → IsFalse (is_root a (e ∷ p))
+stays-no_root (Seed n) p a rest =
     cond_both (same_actor (newborn n p) a) true (is_root a p) (λ v. v ≡ false)
-    (λ s. absurd (false≢true (sym (newborn-not_born n p) ∙ subst (λ x. is_born x p ≡ true) (sym (same_actor-equal (newborn n p) a s)) (quiet.born a member))))
-    (λ _. quiet.no_root a member)
-no_root-next cl (Retire b) p q quiet a member =
-    cond_both (same_actor b a) false (is_root a p) (λ v. v ≡ false) (λ _. refl) (λ _. quiet.no_root a member)
-no_root-next cl _ p q quiet a member = quiet.no_root a member
+    (λ same. absurd (false≢true (sym (newborn-not_born n p) ∙ subst (λ b. is_born b p ≡ true) (sym (same_actor-equal (newborn n p) a same)) rest.0)))
+    (λ _. rest.2)
+stays-no_root (Retire b) p a rest =
+    cond_both (same_actor b a) false (is_root a p) (λ v. v ≡ false) (λ _. refl) (λ _. rest.2)
+stays-no_root _ p a rest = rest.2
+
+-- who is at rest stays so after the next event, where no message waits for it
+pub stays-at_rest : (cl : Cluster) (e : Event) (p : List Event) → IsLegal cl (e ∷ p) → (a : Actor) → IsAtRest a p → (IsTrue (is_up a.node p) → (m : Message) → ¬ IsAmong m (waiting a p))
+    → IsAtRest a (e ∷ p)
+stays-at_rest cl e p legal a rest none =
+    (born-grows a (e ∷ []) p rest.0, stays-idle cl e p legal a rest none, stays-no_root e p a rest)
