@@ -258,7 +258,7 @@ settled cl h legal c =
           let removed = (lost_nodes-lost cl.nodes (final_links cl f) n (lost-among cl f n lost)).1 in
           let final = (final_links-from cl f n removed.0 removed.1).1 in
           closed-crashed cl h legal n removed.0 (folded-closed cl h n removed.0 (c removed.0) final);
-      closed = λ m on_link lost.
+      closed = λ m _ on_link lost.
           let below = sent-below cl h legal m.from.node m.to.node (omega (arith, place-within (sent m.from.node m.to.node h) on_link.0 m on_link.1)) in
           elim (cases_Bool (is_lost cl f m.to.node)) [
             | inl inside ↦ inside

@@ -79,7 +79,7 @@ no_mail cl c lost u members h legal settled set told m live member =
     elim live.1 [
       | inl waits ↦ none-waits cl lost u members h legal set told m.to member m waits
       | inr on ↦ elim (cases_Bool (lost m.from.node)) [
-        | inl gone ↦ false≢true (sym (set.placed m.to member) ∙ settled.closed m on gone)
+        | inl gone ↦ false≢true (sym (set.placed m.to member) ∙ settled.closed m live.0 on gone)
         | inr kept ↦ none-comes cl lost u members h legal set told m member kept on
       ]
     ]
@@ -129,7 +129,7 @@ not_carried cl c lost u members h legal settled set told m live a member carries
     elim live.1 [
       | inl waits ↦ none-kept cl lost h legal m.to a released m waits carries
       | inr on ↦ elim (cases_Bool (lost m.from.node)) [
-        | inl gone ↦ false≢true (sym kept ∙ settled.closed m on gone)
+        | inl gone ↦ false≢true (sym kept ∙ settled.closed m live.0 on gone)
         | inr from_kept ↦ none-brings cl lost h legal a m released from_kept on carries
       ]
     ]

@@ -18,8 +18,9 @@ admitted_on s d (Admit x y k ∷ p) =
 admitted_on s d (_ ∷ p) = admitted_on s d p
 
 -- `lost` may stand in the place of the lost nodes where the first c bulletins of each stream are folded: its nodes
--- have crashed, nothing is under way from them to a node outside, and what was admitted there is folded
+-- have crashed, nothing is under way from them to a node outside that is up, and what nodes outside admitted from them is
+-- folded
 pub record AreSettled (cl : Cluster) (c : ℕ → ℕ) (lost : ℕ → Bool) (h : List Event) : Type 0 where
   pub crashed : (n : ℕ) → IsTrue (lost n) → IsFalse (is_up n h)
-  pub closed : (m : Message) → IsOnLink h m → IsTrue (lost m.from.node) → IsTrue (lost m.to.node)
+  pub closed : (m : Message) → IsTrue (is_up m.to.node h) → IsOnLink h m → IsTrue (lost m.from.node) → IsTrue (lost m.to.node)
   pub told : (s d : ℕ) → d < cl.nodes → IsTrue (lost s) → IsFalse (lost d) → link_facts (λ x. x == s) (take (c d) (stream cl d h)) ≡ flat_map message_facts (admitted_on s d h)
