@@ -146,6 +146,14 @@ crash_after_admission_2-sweep : agrees (cluster 2 1) 1 crash_after_admission_2 (
 unfolding dead greatest lost_nodes
 crash_after_admission_2-sweep = (refl, refl, refl, refl)
 
+-- carried_by_a_lost_node: 1.0 gave up 1.1, and has it again only by a message of a node that is lost
+abbrev carried_by_a_lost_node_1 : List Event
+carried_by_a_lost_node_1 = onto ([]) (Seed 0 ∷ Seed 1 ∷ Tie (actor 0 0) (actor 1 0) ∷ Tie (actor 1 0) (actor 0 0) ∷ Wake (actor 1 0) ∷ Spawn (actor 1 0) ∷ Send (actor 1 0) (actor 0 0) ((actor 1 1) ∷ []) ∷ Drop (actor 1 0) (actor 1 1) ∷ Rest (actor 1 0) ∷ Admit 1 0 0 ∷ Take (actor 0 0) ∷ Send (actor 0 0) (actor 1 0) ((actor 1 1) ∷ []) ∷ Admit 0 1 0 ∷ Take (actor 1 0) ∷ Rest (actor 1 0) ∷ Crash 0 ∷ Flush (actor 1 0) ∷ Flush (actor 1 1) ∷ Publish 1 ∷ Remove 1 0 ∷ Hand 1 1 0 ∷ Hand 1 1 1 ∷ [])
+
+carried_by_a_lost_node_1-sweep : agrees (cluster 2 1) 1 carried_by_a_lost_node_1 (0 ∷ 2 ∷ []) (0 ∷ []) ([])
+unfolding dead greatest lost_nodes
+carried_by_a_lost_node_1-sweep = (refl, refl, refl, refl)
+
 -- one_final_missing
 abbrev one_final_missing_1 : List Event
 one_final_missing_1 = onto ([]) (Seed 0 ∷ Seed 1 ∷ Tie (actor 1 0) (actor 0 0) ∷ Wake (actor 1 0) ∷ Spawn (actor 1 0) ∷ Send (actor 1 0) (actor 0 0) ((actor 1 1) ∷ []) ∷ Drop (actor 1 0) (actor 1 1) ∷ Rest (actor 1 0) ∷ Admit 1 0 0 ∷ Take (actor 0 0) ∷ Flush (actor 1 0) ∷ Flush (actor 1 1) ∷ Publish 1 ∷ Crash 0 ∷ Remove 1 0 ∷ Remove 2 0 ∷ Hand 1 1 0 ∷ Hand 1 1 1 ∷ [])
