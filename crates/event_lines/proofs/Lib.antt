@@ -1,0 +1,2 @@
+pub mod PiecesLaws
+pub mod FieldsLaws

@@ -1,0 +1,5 @@
+//! The spelling of lines, both ways.
+#![tactic(auto)]
+
+mod fields;
+mod pieces;
