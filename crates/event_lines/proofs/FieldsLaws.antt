@@ -89,7 +89,7 @@ pub nothing_left-some : (ws : List (List ℕ)) (u : Unit {0}) → nothing_left w
 nothing_left-some [] u e = refl
 nothing_left-some (w ∷ ws) u e = absurd (none-some u e)
 
-option_map-some : {A B : Type 0} (f : A → B) (o : Option A) (y : B) → option_map f o ≡ Some y → (x : A) × (o ≡ Some x) × (f x ≡ y)
+pub option_map-some : {A B : Type 0} (f : A → B) (o : Option A) (y : B) → option_map f o ≡ Some y → (x : A) × (o ≡ Some x) × (f x ≡ y)
 option_map-some f None y e = absurd (none-some y e)
 option_map-some f (Some x) y e = (x, refl, same_Some (f x) y e)
 

@@ -1,2 +1,3 @@
 pub mod PiecesLaws
 pub mod FieldsLaws
+pub mod ShapesLaws

@@ -1,2 +1,4 @@
 pub mod Pieces
 pub mod Fields
+pub mod Shapes
+pub mod Events

@@ -3,3 +3,7 @@
 
 mod fields;
 mod pieces;
+mod read;
+mod shapes;
+
+pub use read::read_event;
