@@ -1,3 +1,4 @@
 pub mod PiecesLaws
 pub mod FieldsLaws
 pub mod ShapesLaws
+pub mod EventsLaws

@@ -2,8 +2,10 @@
 #![tactic(auto)]
 
 mod fields;
+pub mod laws;
 mod pieces;
 mod read;
 mod shapes;
+mod words;
 
 pub use read::read_event;
