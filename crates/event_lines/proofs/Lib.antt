@@ -2,3 +2,4 @@ pub mod PiecesLaws
 pub mod FieldsLaws
 pub mod ShapesLaws
 pub mod EventsLaws
+pub mod WordsLaws

@@ -4,8 +4,10 @@
 mod fields;
 pub mod laws;
 mod pieces;
+mod print;
 mod read;
 mod shapes;
 mod words;
 
+pub use print::{append_end, append_event, append_header};
 pub use read::read_event;

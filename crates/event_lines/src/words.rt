@@ -3,7 +3,7 @@ ghost use Rattle.std.specs.Prelude.{◌≡◌, [], ◌∷◌, ◌++◌, map, dec
 ghost use Rattle.history_model.specs.Lines.{actor_word};
 ghost use Rattle.event_lines.specs.Words.{BeginsWith, bytes_of, line_with, spaced};
 
-use crgc_ids::{ActorId, NoMemory};
+use crgc_ids::{ActorId, NoMemory, NodeId};
 use itoa::Buffer;
 
 /// One word of a line.
@@ -12,6 +12,15 @@ pub enum Word<'a> {
     Name(&'a [u8]),
     Number(u64),
     ActorName(ActorId),
+}
+
+impl Word<'_> {
+    /// The word of a node.
+    pub fn of_node(node: NodeId) -> Word<'static>
+        ensures { result ≡ Word.Number node }
+    {
+        Word::Number(node.get() as u64)
+    }
 }
 
 /// Appends a line of a first word, words and actors, with its line feed.
