@@ -1,0 +1,5 @@
+pub mod Pieces
+pub mod Fields
+pub mod Shapes
+pub mod Events
+pub mod Words
