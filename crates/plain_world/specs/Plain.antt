@@ -1,14 +1,27 @@
 -- What the collector of one node computes from the facts that it has folded: without messages nothing is received, told
 -- or admitted, and no node is lost.
-use Rattle.std.specs.Prelude.{ℕ, ◌==◌, Bool, ◌&&◌, ◌||◌, not, nat_lt, List, map}
-use Rattle.std.specs.List.{filter, flat_map, list_all}
+use Rattle.std.specs.Prelude.{ℕ, ◌==◌, Bool, true, false, ◌&&◌, ◌||◌, not, nat_lt, List, [], ◌∷◌, map, flat_map}
+use Rattle.std.specs.List.{filter, list_all}
 use Rattle.crgc_ids.specs.Actor.{Actor}
 use Rattle.crgc_ids.specs.Greatest.{greatest}
+use Rattle.history_model.specs.declared.events.Event.{Event}
+use Rattle.history_model.specs.declared.events.Event.TheVariants.{Drop, Flush, Publish, Sweep}
+use Rattle.history_model.specs.declared.records.Stop.{Stop}
+use Rattle.history_model.specs.Cluster.{Cluster, same_actor}
+use Rattle.history_model.specs.Sweeps.{is_swept}
 use Rattle.history_model.specs.Tally.{tally}
 use Rattle.history_model.specs.Facts.{Fact, created, released, flagged, is_created, is_released}
-use Rattle.history_model.specs.Graph.{named_by, rising_actors, last_flags, may_act, holds_actor}
+use Rattle.history_model.specs.Graph.{named_by, rising_actors, insert_actor, last_flags, may_act, holds_actor}
 use Rattle.plain_world.specs.declared.facts.PlainFact.{PlainFact}
 use Rattle.plain_world.specs.declared.facts.PlainFact.TheVariants.{Created, Released, Flagged}
+
+abbrev pub is_flush_of : Actor → Event → Bool
+is_flush_of a (Flush b) = same_actor b a
+is_flush_of a _ = false
+
+abbrev pub is_publish_of : ℕ → Event → Bool
+is_publish_of n (Publish m) = m == n
+is_publish_of n _ = false
 
 -- what a plain fact stands for
 abbrev pub fact_of : PlainFact → Fact
@@ -40,3 +53,23 @@ plain_candidates fs = filter (is_plain_candidate fs) (plain_known fs)
 
 unfoldable pub plain_dead : List Fact → List Actor
 plain_dead fs = greatest (is_plain_unreached fs) (plain_candidates fs)
+
+-- puts the actors into a rising list, the last one first
+abbrev pub insert_actors : List Actor → List Actor → List Actor
+insert_actors [] known = known
+insert_actors (a ∷ as_) known = insert_actor a (insert_actors as_ known)
+
+-- the event is a sweep that finds a
+abbrev pub sweeps_away : Cluster → Event → List Event → Actor → Bool
+sweeps_away cl (Sweep m) p a = is_swept cl m p a
+sweeps_away cl _ p a = false
+
+-- one stopped actor with its owners
+abbrev pub plain_stop : List Fact → Actor → Stop
+plain_stop fs a = record {
+  actor = a;
+  received = 0;
+  told = 0;
+  admitted = 0;
+  owners = filter (λ b. has_plain_edge fs b a) (plain_known fs);
+}

@@ -1,6 +1,7 @@
 //! The constants of a cluster, and the tests on actors.
 ghost use Rattle.std.specs.Prelude.{◌≡◌};
 ghost use Rattle.history_model.specs.Cluster.{same_actor};
+ghost use Rattle.history_model.specs.Graph.{is_actor_below};
 
 use crgc_ids::ActorId;
 use history_model::History;
@@ -51,4 +52,11 @@ pub fn is_same(a: ActorId, b: ActorId) -> bool
     ensures { result ≡ same_actor a b }
 {
     a.node().get() == b.node().get() && a.serial() == b.serial()
+}
+
+/// Whether the first actor is below the second.
+pub fn is_below(a: ActorId, b: ActorId) -> bool
+    ensures { result ≡ is_actor_below a b }
+{
+    a.node().get() < b.node().get() || (a.node().get() == b.node().get() && a.serial() < b.serial())
 }
