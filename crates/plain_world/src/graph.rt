@@ -93,8 +93,8 @@ fn is_released_reference(fact: PlainFact, owner: ActorId, target: ActorId) -> bo
 pub fn has_edge(facts: &[PlainFact], owner: ActorId, target: ActorId) -> bool
     ensures { result ≡ has_plain_edge (facts_of facts.now) owner target }
 {
-    let mut made = 0;
-    let mut given_up = 0;
+    let mut made: usize = 0;
+    let mut given_up: usize = 0;
     for fact in facts {
         if is_reference(*fact, owner, target) {
             made += 1;

@@ -1,6 +1,7 @@
 //! The references that actors hold after a list of events, the oldest first. Each function is quadratic in the events.
-ghost use Rattle.std.specs.Prelude.{◌≡◌, ◌*◌, ◌≤◌, ◌∷◌, if◌then◌else◌, length, reverse};
-ghost use Rattle.history_model.specs.declared.events.Event.TheVariants.{Seed, Spawn};
+ghost use Rattle.std.specs.Prelude.{◌≡◌, ◌+◌, ◌*◌, ◌≤◌, ◌∷◌, ◌&&◌, ◌==◌, if◌then◌else◌, length, reverse};
+ghost use Rattle.history_model.specs.declared.events.Event.TheVariants.{Spawn};
+ghost use Rattle.history_model.specs.Cluster.{same_actor, newborn};
 ghost use Rattle.history_model.specs.Facts.{notes};
 ghost use Rattle.history_model.specs.Held.{is_note_of, gifts, is_drop_of, gave, held};
 ghost use Rattle.history_model.specs.Legal.{is_parent};
@@ -18,18 +19,33 @@ fn count_if(test: bool) -> u128
     if test { 1 } else { 0 }
 }
 
-/// How many references to the target the birth by seed gives the owner.
-fn seed_gifts(
-    cluster: Constants,
-    node: NodeId,
-    earlier: &[Event],
-    owner: ActorId,
-    target: ActorId,
-) -> u128
-    ensures value { result ≡ tally (is_note_of owner target) (notes cluster (Seed node) (reverse earlier.now)) }
-    ensures bound { result ≤ 3 }
+/// Whether the next birth on the node gives an actor that is both.
+fn is_own_birth(earlier: &[Event], node: NodeId, owner: ActorId, target: ActorId) -> bool
+    ensures { result ≡ (same_actor (newborn node (reverse earlier.now)) owner && same_actor (newborn node (reverse earlier.now)) target) }
 {
-    count_if(is_next_born(earlier, node, owner) && is_next_born(earlier, node, target))
+    is_next_born(earlier, node, owner) && is_next_born(earlier, node, target)
+}
+
+/// Whether the next birth by the spawner is the child of the parent.
+fn is_birth_by(spawner: ActorId, earlier: &[Event], parent: ActorId, child: ActorId) -> bool
+    ensures { result ≡ (same_actor spawner parent && same_actor (newborn spawner.node (reverse earlier.now)) child) }
+{
+    is_same(spawner, parent) && is_next_born(earlier, spawner.node(), child)
+}
+
+/// Whether the next birth by the spawner makes a reference from the child to the parent: in version 2 it does.
+fn is_supervised_birth(
+    cluster: Constants,
+    spawner: ActorId,
+    earlier: &[Event],
+    child: ActorId,
+    parent: ActorId,
+) -> bool
+    ensures { result ≡ ((cluster.version == 2) && (same_actor (newborn spawner.node (reverse earlier.now)) child && same_actor spawner parent)) }
+{
+    cluster.version() == 2
+        && is_next_born(earlier, spawner.node(), child)
+        && is_same(spawner, parent)
 }
 
 /// How many references to the target the birth by spawn gives the owner.
@@ -43,13 +59,15 @@ fn spawn_gifts(
     ensures value { result ≡ tally (is_note_of owner target) (notes cluster (Spawn parent) (reverse earlier.now)) }
     ensures bound { result ≤ 3 }
 {
-    let owner_born = is_next_born(earlier, parent.node(), owner);
-    let target_born = is_next_born(earlier, parent.node(), target);
-    let itself = count_if(owner_born && target_born);
-    let child = count_if(is_same(parent, owner) && target_born);
-    let supervised = cluster.version() == 2;
-    let supervisor = count_if(supervised && owner_born && is_same(parent, target));
-    itself + child + supervisor
+    count_if(is_own_birth(earlier, parent.node(), owner, target))
+        + count_if(is_birth_by(parent, earlier, owner, target))
+        + count_if(is_supervised_birth(cluster, parent, earlier, owner, target))
+}
+
+fn is_pair(from: ActorId, to: ActorId, owner: ActorId, target: ActorId) -> bool
+    ensures { result ≡ (same_actor from owner && same_actor to target) }
+{
+    is_same(from, owner) && is_same(to, target)
 }
 
 /// How many references to the target the events gave the owner, where `before` were given by the earlier ones.
@@ -67,12 +85,12 @@ fn gifts_after(
     ensures bound { result ≤ before + 3 }
 {
     match event {
-        Event::Seed { node } => before + seed_gifts(cluster, *node, earlier, owner, target),
+        Event::Seed { node } => before + count_if(is_own_birth(earlier, *node, owner, target)),
         Event::Spawn { parent } => before + spawn_gifts(cluster, *parent, earlier, owner, target),
         Event::Tie {
             owner: o,
             target: t,
-        } => before + count_if(is_same(*o, owner) && is_same(*t, target)),
+        } => before + count_if(is_pair(*o, *t, owner, target)),
         _ => before,
     }
 }
@@ -94,7 +112,7 @@ fn is_release(event: &Event, owner: ActorId, target: ActorId) -> bool
         Event::Drop {
             actor,
             target: dropped,
-        } => is_same(*actor, owner) && is_same(*dropped, target),
+        } => is_pair(*actor, *dropped, owner, target),
         _ => false,
     }
 }
@@ -131,9 +149,7 @@ fn parent_after(
     ensures { result ≡ is_parent parent child (event.now ∷ reverse earlier.now) }
 {
     match event {
-        Event::Spawn { parent: a } => {
-            (is_same(*a, parent) && is_next_born(earlier, a.node(), child)) || before
-        }
+        Event::Spawn { parent: a } => is_birth_by(*a, earlier, parent, child) || before,
         _ => before,
     }
 }

@@ -25,6 +25,7 @@ fn of_seed(cluster: Constants, events: &[Event], node: NodeId) -> Option<Rule>
     }
 }
 
+#[tactic(auto, using(crate::proofs::History::always_up))]
 fn of_wake(cluster: Constants, events: &[Event], actor: ActorId) -> Option<Rule>
     requires { AreBuilt (reverse events.now) }
     ensures { result ≡ refusal cluster (Wake actor) (reverse events.now) }
@@ -68,7 +69,9 @@ fn of_drop(cluster: Constants, events: &[Event], actor: ActorId, target: ActorId
     requires { AreBuilt (reverse events.now) }
     ensures { result ≡ refusal cluster (Drop actor target) (reverse events.now) }
 {
-    if !was_born(events, actor) || !was_born(events, target) {
+    if !was_born(events, actor) {
+        Some(Rule::NoActor)
+    } else if !was_born(events, target) {
         Some(Rule::NoActor)
     } else if !is_busy_now(events, actor) {
         Some(Rule::Idle)
@@ -122,7 +125,9 @@ fn of_hand(
     requires { AreBuilt (reverse events.now) }
     ensures { result ≡ refusal cluster (Hand to origin number) (reverse events.now) }
 {
-    if to.get() >= cluster.nodes() || origin.get() >= cluster.nodes() {
+    if to.get() >= cluster.nodes() {
+        Some(Rule::NoNode)
+    } else if origin.get() >= cluster.nodes() {
         Some(Rule::NoNode)
     } else if number as usize >= published_by(events, origin) {
         Some(Rule::NoBulletin)
