@@ -1,2 +1,3 @@
 pub mod Gifts
 pub mod History
+pub mod Deltas

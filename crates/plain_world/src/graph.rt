@@ -185,8 +185,10 @@ pub fn dead_of(
         .copied()
         .filter(|a| is_candidate(facts, *a))
         .collect(alloc)?;
-    for _ in 0..dead.len() {
+    let mut turns = dead.len();
+    while turns > 0 {
         let left = prune_once(alloc, facts, known, dead.as_slice())?;
+        turns = if left.len() == dead.len() { 0 } else { turns - 1 };
         dead = left;
     }
     Ok(dead)

@@ -25,7 +25,6 @@ fn of_seed(cluster: Constants, events: &[Event], node: NodeId) -> Option<Rule>
     }
 }
 
-#[tactic(auto, using(crate::proofs::History::always_up))]
 fn of_wake(cluster: Constants, events: &[Event], actor: ActorId) -> Option<Rule>
     requires { AreBuilt (reverse events.now) }
     ensures { result ≡ refusal cluster (Wake actor) (reverse events.now) }
@@ -151,15 +150,17 @@ pub fn refusal_of(
     let cluster = Constants::of(history);
     let events = history.as_slice();
     Ok(match event {
-        Event::Seed { node } | Event::Sweep { node } => of_seed(cluster, events, *node),
+        Event::Seed { node } => of_seed(cluster, events, *node),
         Event::Wake { actor } => of_wake(cluster, events, *actor),
-        Event::Spawn { parent: actor } | Event::Rest { actor } => of_rest(cluster, events, *actor),
+        Event::Spawn { parent } => of_rest(cluster, events, *parent),
         Event::Drop { actor, target } => of_drop(cluster, events, *actor, *target),
+        Event::Rest { actor } => of_rest(cluster, events, *actor),
         Event::Flush { actor } => {
             of_flush(alloc, cluster, events, *actor).map_err(|_| NoMemory)?
         }
         Event::Publish { node } => of_publish(cluster, events, *node),
         Event::Hand { to, origin, number } => of_hand(cluster, events, *to, *origin, *number),
+        Event::Sweep { node } => of_seed(cluster, events, *node),
         _ => None,
     })
 }

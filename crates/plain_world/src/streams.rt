@@ -81,6 +81,30 @@ pub fn queue_of(
     Ok(facts)
 }
 
+/// Adds what the event publishes, where it is among the first `limit` Deltas of the node.
+fn tell(
+    told: &mut Vec<PlainFact>,
+    cluster: Constants,
+    event: &Event,
+    earlier: &[Event],
+    waiting: &[PlainFact],
+    node: NodeId,
+    limit: usize,
+) -> Result<(), AllocError>
+    requires built { AreBuilt (event.now ∷ reverse earlier.now) }
+    requires waiting { facts_of waiting.now ≡ queue cluster node (reverse earlier.now) }
+    requires before { facts_of told.old.items ≡ delta_facts (take limit (stream cluster node (reverse earlier.now))) }
+    ensures { OnOk result (facts_of told.new.items ≡ delta_facts (take limit (stream cluster node (event.now ∷ reverse earlier.now)))) }
+{
+    if !is_publish(event, node) {
+        return Ok(());
+    }
+    if limit <= published_by(earlier, node) {
+        return Ok(());
+    }
+    told.extend_from_slice(waiting)
+}
+
 /// What the first `limit` Deltas of the node tell. Cubic time.
 pub fn told_by(
     alloc: Global,
@@ -93,16 +117,11 @@ pub fn told_by(
     ensures { IfOk result (λ v. facts_of v.items ≡ delta_facts (take limit (stream cluster node (reverse events.now)))) }
 {
     let mut told = Vec::new(alloc);
-    let mut queue = Vec::new(alloc);
-    let mut published = 0;
+    let mut waiting = Vec::new(alloc);
     for (i, event) in events.iter().enumerate() {
-        if is_publish(event, node) {
-            if published < limit {
-                told.extend_from_slice(queue.as_slice())?;
-            }
-            published += 1;
-        }
-        enqueue(&mut queue, alloc, cluster, event, &events[..i], node)?;
+        let earlier = &events[..i];
+        tell(&mut told, cluster, event, earlier, waiting.as_slice(), node, limit)?;
+        enqueue(&mut waiting, alloc, cluster, event, earlier, node)?;
     }
     Ok(told)
 }
