@@ -1,3 +1,6 @@
+pub mod Deltas
+pub mod Flags
 pub mod Gifts
 pub mod History
-pub mod Deltas
+pub mod Pruning
+pub mod Tallies

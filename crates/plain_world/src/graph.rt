@@ -89,21 +89,35 @@ fn is_released_reference(fact: PlainFact, owner: ActorId, target: ActorId) -> bo
     }
 }
 
-/// Whether more references to the target were made for the owner than it gave up.
-pub fn has_edge(facts: &[PlainFact], owner: ActorId, target: ActorId) -> bool
-    ensures { result ≡ has_plain_edge (facts_of facts.now) owner target }
+fn references_made(facts: &[PlainFact], owner: ActorId, target: ActorId) -> usize
+    ensures { result ≡ tally (is_created owner target) (facts_of facts.now) }
 {
-    let mut made: usize = 0;
-    let mut given_up: usize = 0;
+    let mut made = 0;
     for fact in facts {
         if is_reference(*fact, owner, target) {
             made += 1;
         }
+    }
+    made
+}
+
+fn references_released(facts: &[PlainFact], owner: ActorId, target: ActorId) -> usize
+    ensures { result ≡ tally (is_released owner target) (facts_of facts.now) }
+{
+    let mut released = 0;
+    for fact in facts {
         if is_released_reference(*fact, owner, target) {
-            given_up += 1;
+            released += 1;
         }
     }
-    given_up < made
+    released
+}
+
+/// Whether more references to the target were made for the owner than it gave up.
+pub fn has_edge(facts: &[PlainFact], owner: ActorId, target: ActorId) -> bool
+    ensures { result ≡ has_plain_edge (facts_of facts.now) owner target }
+{
+    references_released(facts, owner, target) < references_made(facts, owner, target)
 }
 
 /// Whether the actor's last flags let it act of itself; an actor without flags may act.
@@ -170,6 +184,21 @@ fn prune_once(
         .collect(alloc)
 }
 
+fn candidates_of(
+    alloc: Global,
+    facts: &[PlainFact],
+    known: &[ActorId],
+) -> Result<Vec<ActorId>, AllocError>
+    requires { known.now ≡ plain_known (facts_of facts.now) }
+    ensures { IfOk result (λ v. v.items ≡ plain_candidates (facts_of facts.now)) }
+{
+    known
+        .iter()
+        .copied()
+        .filter(|a| is_candidate(facts, *a))
+        .collect(alloc)
+}
+
 /// The dead of the facts: the greatest set of candidates to which no known actor outside the set has a positive edge.
 /// The fourth power of the number of facts.
 pub fn dead_of(
@@ -180,11 +209,7 @@ pub fn dead_of(
     requires { known.now ≡ plain_known (facts_of facts.now) }
     ensures { IfOk result (λ v. v.items ≡ plain_dead (facts_of facts.now)) }
 {
-    let mut dead: Vec<ActorId> = known
-        .iter()
-        .copied()
-        .filter(|a| is_candidate(facts, *a))
-        .collect(alloc)?;
+    let mut dead = candidates_of(alloc, facts, known)?;
     let mut turns = dead.len();
     while turns > 0 {
         let left = prune_once(alloc, facts, known, dead.as_slice())?;
