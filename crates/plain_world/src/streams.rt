@@ -1,5 +1,5 @@
 //! The queue and the stream of a node after a list of events, the oldest first, and what was handed of the stream.
-ghost use Rattle.std.specs.Prelude.{◌≡◌, ◌≤◌, ◌∷◌, not, length, reverse, take, IfOk, OnOk};
+ghost use Rattle.std.specs.Prelude.{◌≡◌, ◌≤◌, ◌∷◌, ◌==◌, ◌&&◌, not, length, reverse, take, IfOk, OnOk};
 ghost use Rattle.history_model.specs.Folds.{is_hand, was_handed, run_of};
 ghost use Rattle.history_model.specs.Graph.{delta_facts};
 ghost use Rattle.history_model.specs.Streams.{queue, stream, is_blank};
@@ -170,14 +170,21 @@ fn was_handed_to(events: &[Event], to: NodeId, origin: NodeId, number: usize) ->
     handed
 }
 
+/// Whether the run of handed numbers, as far as number `k`, takes in `k` too.
+fn goes_on(events: &[Event], to: NodeId, origin: NodeId, run: usize, k: usize) -> bool
+    ensures { result ≡ ((run == k) && was_handed to origin k (reverse events.now)) }
+{
+    run == k && was_handed_to(events, to, origin, k)
+}
+
 /// How many bulletins of the origin are folded at the node: the longest run of handed numbers from 0. Quadratic time.
 pub fn cut_of(events: &[Event], to: NodeId, origin: NodeId) -> usize
     ensures { result ≡ run_of (λ k. was_handed to origin k (reverse events.now)) (tally (is_publish_of origin) (reverse events.now)) }
 {
     let mut run = 0;
     for k in 0..published_by(events, origin) {
-        if run == k && was_handed_to(events, to, origin, k) {
-            run += 1;
+        if goes_on(events, to, origin, run, k) {
+            run = k + 1;
         }
     }
     run

@@ -51,6 +51,27 @@ fn dead_by(
     dead_of(alloc, facts.as_slice(), known.as_slice())
 }
 
+fn is_swept_by(node: NodeId, swept: &[ActorId], actor: ActorId) -> bool
+    ensures { result ≡ ((actor.node == node) && holds_actor swept.now actor) }
+{
+    actor.node().get() == node.get() && is_in(swept, actor)
+}
+
+fn without_swept(
+    alloc: Global,
+    actors: &[ActorId],
+    node: NodeId,
+    swept: &[ActorId],
+) -> Result<Vec<ActorId>, AllocError>
+    ensures { IfOk result (λ v. v.items ≡ filter (λ a. not ((a.node == node) && holds_actor swept.now a)) actors.now) }
+{
+    actors
+        .iter()
+        .copied()
+        .filter(|a| !is_swept_by(node, swept, *a))
+        .collect(alloc)
+}
+
 /// Takes away the actors that the event stops.
 fn keep_unswept(
     alloc: Global,
@@ -66,14 +87,26 @@ fn keep_unswept(
     requires origin { origin ≡ 0 }
     ensures { IfOk result (λ v. v.items ≡ filter (λ a. not (sweeps_away cluster event.now (reverse earlier.now) a)) actors.items) }
 {
-    let Event::Sweep { node } = event else {
-        return Ok(actors);
-    };
-    let swept = dead_by(alloc, cluster, earlier, *node, origin)?;
+    match event {
+        Event::Sweep { node } => {
+            let swept = dead_by(alloc, cluster, earlier, *node, origin)?;
+            without_swept(alloc, actors.as_slice(), *node, swept.as_slice())
+        }
+        _ => Ok(actors),
+    }
+}
+
+fn on_node(
+    alloc: Global,
+    actors: &[ActorId],
+    node: NodeId,
+) -> Result<Vec<ActorId>, AllocError>
+    ensures { IfOk result (λ v. v.items ≡ filter (λ a. a.node == node) actors.now) }
+{
     actors
         .iter()
         .copied()
-        .filter(|a| a.node().get() != node.get() || !is_in(swept.as_slice(), *a))
+        .filter(|a| a.node().get() == node.get())
         .collect(alloc)
 }
 
@@ -91,11 +124,7 @@ fn newly_dead(
     requires node { node ≡ 0 }
     ensures { IfOk result (λ v. v.items ≡ filter (λ a. (a.node == node) && not (is_stopped cluster a (reverse events.now))) dead.now) }
 {
-    let mut left: Vec<ActorId> = dead
-        .iter()
-        .copied()
-        .filter(|a| a.node().get() == node.get())
-        .collect(alloc)?;
+    let mut left = on_node(alloc, dead, node)?;
     for (i, event) in events.iter().enumerate() {
         let kept = keep_unswept(alloc, cluster, event, &events[..i], node, left)?;
         left = kept;
