@@ -16,12 +16,7 @@ use Rattle.history_model.specs.State.{is_up, is_crash}
 use Rattle.history_model.specs.Streams.{stream}
 use Rattle.history_model.specs.Tally.{tally}
 use Rattle.plain_world.specs.Built.{is_built, AreBuilt}
-use Rattle.plain_world.specs.Plain.{is_publish_of}
-
--- with one more event, the history has that event as its newest
-pub reverse_more : {X : Type 0} (xs : List X) (i : ℕ) (x : X) → i < length xs → x ≡ get_or xs i x → reverse (take (i + 1) xs) ≡ x ∷ reverse (take i xs)
-reverse_more xs i x l e =
-    ap reverse (take_more xs i x l) ∙ reverse-append (take i xs) (get_or xs i x ∷ []) ∙ ap (λ y. y ∷ reverse (take i xs)) (sym e)
+use Rattle.plain_world.proofs.Steps.{reverse_more}
 
 -- a history is its later events after its earlier ones
 split_at : {X : Type 0} (xs : List X) (i : ℕ) → reverse xs ≡ reverse (drop i xs) ++ reverse (take i xs)

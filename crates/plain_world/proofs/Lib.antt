@@ -4,5 +4,5 @@ pub mod Flags
 pub mod Gifts
 pub mod History
 pub mod Pruning
-pub mod Runs
-pub mod Tallies
+pub mod Steps
+pub mod Sweeping

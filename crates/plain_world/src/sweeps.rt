@@ -1,5 +1,5 @@
 //! The verdict of a sweep.
-ghost use Rattle.std.specs.Prelude.{◌≡◌, ◌≤◌, ◌<◌, ◌∷◌, ◌&&◌, ◌==◌, not, ℕ, map, reverse, replicate, slice_set, IfOk, OnOk};
+ghost use Rattle.std.specs.Prelude.{◌≡◌, [], ◌∷◌, ◌++◌, ◌&&◌, ◌==◌, not, map, reverse, replicate, slice_set, IfOk, OnOk};
 ghost use Rattle.std.specs.List.{filter};
 ghost use Rattle.crgc_ids.specs.Actor.{Actor};
 ghost use Rattle.history_model.specs.Folds.{cut_at, folded};
@@ -13,7 +13,7 @@ use crate::constants::Constants;
 use crate::facts::PlainFact;
 use crate::graph::{dead_of, has_edge, is_in, known_actors_of};
 use crate::streams::{cut_of, told_by};
-use crgc_ids::{ActorId, ActorList, Cut, NoMemory, NodeId, NodeSet};
+use crgc_ids::{ActorId, ActorList, Cut, ItemList, NoMemory, NodeId, NodeSet};
 use history_model::{Event, History, Stop, StopList, Verdict};
 use std::alloc::{AllocError, Global};
 
@@ -132,61 +132,70 @@ fn newly_dead(
     Ok(left)
 }
 
+/// Puts the item last.
+fn put<T: Drop>(list: &mut ItemList<T>, item: T) -> Result<(), AllocError>
+    ensures { OnOk result (list.new ≡ list.old ++ item ∷ []) }
+{
+    match list.push(item) {
+        Ok(()) => Ok(()),
+        Err(NoMemory) => Err(AllocError),
+    }
+}
+
 /// The actors with a positive edge to the target, rising.
 fn owners_of(
     alloc: Global,
     facts: &[PlainFact],
     known: &[ActorId],
     target: ActorId,
-) -> Result<ActorList, NoMemory>
+) -> Result<ActorList, AllocError>
     requires { known.now ≡ plain_known (facts_of facts.now) }
     ensures { IfOk result (λ l. l ≡ filter (λ b. has_plain_edge (facts_of facts.now) b target) (plain_known (facts_of facts.now))) }
 {
     let mut owners = ActorList::new(alloc);
     for owner in known {
         if has_edge(facts, *owner, target) {
-            owners.push(*owner)?;
+            put(&mut owners, *owner)?;
         }
     }
     Ok(owners)
 }
 
-/// The stops of the actors, with their owners.
-fn stops_with_owners(
+/// The actor with its evidence.
+fn with_evidence(
+    alloc: Global,
+    facts: &[PlainFact],
+    known: &[ActorId],
+    actor: ActorId,
+) -> Result<Stop, AllocError>
+    requires { known.now ≡ plain_known (facts_of facts.now) }
+    ensures { IfOk result (λ s. s ≡ plain_stop (facts_of facts.now) actor) }
+{
+    Ok(Stop {
+        actor,
+        received: 0,
+        told: 0,
+        admitted: 0,
+        owners: owners_of(alloc, facts, known, actor)?,
+    })
+}
+
+/// The stops of the actors.
+fn stops_with_evidence(
     alloc: Global,
     facts: &[PlainFact],
     known: &[ActorId],
     stopped: &[ActorId],
-) -> Result<StopList, NoMemory>
+) -> Result<StopList, AllocError>
     requires { known.now ≡ plain_known (facts_of facts.now) }
     ensures { IfOk result (λ l. l ≡ map (plain_stop (facts_of facts.now)) stopped.now) }
 {
     let mut stops = StopList::new(alloc);
     for actor in stopped {
-        stops.push(Stop {
-            actor: *actor,
-            received: 0,
-            told: 0,
-            admitted: 0,
-            owners: owners_of(alloc, facts, known, *actor)?,
-        })?;
+        let stop = with_evidence(alloc, facts, known, *actor)?;
+        put(&mut stops, stop)?;
     }
     Ok(stops)
-}
-
-/// The cut that counts bulletins of this origin alone. More bulletins than a cut can count are in no history within its
-/// limits.
-fn cut_with(origin: NodeId, count: usize) -> Result<Cut, NoMemory>
-    ensures { IfOk result (λ c. c ≡ slice_set (replicate 16 0) origin count) }
-{
-    let mut cut = Cut::zero();
-    for _ in 0..count {
-        if cut.at(origin) >= 1_000_000 {
-            return Err(NoMemory);
-        }
-        cut.raise(origin);
-    }
-    Ok(cut)
 }
 
 /// The stops of a sweep by the node.
@@ -195,19 +204,53 @@ fn stops_by(
     cluster: Constants,
     events: &[Event],
     node: NodeId,
-) -> Result<StopList, NoMemory>
+) -> Result<StopList, AllocError>
     requires one_node { cluster.nodes ≡ 1 }
     requires built { AreBuilt (reverse events.now) }
     requires legal { IsLegal cluster (reverse events.now) }
     requires node { node ≡ 0 }
     ensures { IfOk result (λ l. l ≡ stops_of cluster node (reverse events.now)) }
 {
-    let facts = folded_facts(alloc, cluster, events, node, node).map_err(|_| NoMemory)?;
-    let known = known_actors_of(alloc, facts.as_slice()).map_err(|_| NoMemory)?;
-    let dead = dead_of(alloc, facts.as_slice(), known.as_slice()).map_err(|_| NoMemory)?;
-    let stopped =
-        newly_dead(alloc, cluster, events, node, dead.as_slice()).map_err(|_| NoMemory)?;
-    stops_with_owners(alloc, facts.as_slice(), known.as_slice(), stopped.as_slice())
+    let facts = folded_facts(alloc, cluster, events, node, node)?;
+    let known = known_actors_of(alloc, facts.as_slice())?;
+    let dead = dead_of(alloc, facts.as_slice(), known.as_slice())?;
+    let stopped = newly_dead(alloc, cluster, events, node, dead.as_slice())?;
+    stops_with_evidence(alloc, facts.as_slice(), known.as_slice(), stopped.as_slice())
+}
+
+/// The cut that counts bulletins of node 0 alone. More than a cut can count are in no history within its limits.
+fn cut_with(node: NodeId, count: usize) -> Result<Cut, AllocError>
+    requires { node ≡ 0 }
+    ensures { IfOk result (λ c. c ≡ slice_set (replicate 16 0) 0 count) }
+{
+    let mut cut = Cut::zero();
+    for raised in 0..count {
+        if cut.at(node) >= 1_000_000 {
+            return Err(AllocError);
+        }
+        cut.raise(node);
+    }
+    Ok(cut)
+}
+
+fn verdict_of(
+    alloc: Global,
+    cluster: Constants,
+    events: &[Event],
+    node: NodeId,
+) -> Result<Verdict, AllocError>
+    requires one_node { cluster.nodes ≡ 1 }
+    requires built { AreBuilt (reverse events.now) }
+    requires legal { IsLegal cluster (reverse events.now) }
+    requires node { node ≡ 0 }
+    ensures { IfOk result (λ v. IsVerdict cluster node (reverse events.now) v) }
+{
+    Ok(Verdict {
+        node,
+        cut: cut_with(node, cut_of(events, node, node))?,
+        lost: NodeSet::empty(),
+        stops: stops_by(alloc, cluster, events, node)?,
+    })
 }
 
 /// The verdict of a sweep by the node: its cut, no lost node, and the stops with their evidence.
@@ -218,11 +261,8 @@ pub fn verdict(alloc: Global, history: &History, node: NodeId) -> Result<Verdict
     requires node { node ≡ 0 }
     ensures { IfOk result (λ v. IsVerdict history.now.cluster node history.now.past v) }
 {
-    let events = history.as_slice();
-    Ok(Verdict {
-        node,
-        cut: cut_with(node, cut_of(events, node, node))?,
-        lost: NodeSet::empty(),
-        stops: stops_by(alloc, Constants::of(history), events, node)?,
-    })
+    match verdict_of(alloc, Constants::of(history), history.as_slice(), node) {
+        Ok(found) => Ok(found),
+        Err(_) => Err(NoMemory),
+    }
 }

@@ -1,7 +1,7 @@
 use Rattle.std.proofs.Common.{arith}
 use Rattle.std.proofs.lemmas.Grind.{common_steps}
 use Rattle.history_model.specs.Facts.{is_created}
-use Rattle.plain_world.proofs.Tallies.{tally_more}
+use Rattle.plain_world.proofs.Steps.{tally_more}
 use Rattle.plain_world.proofs.graph.references_made.Goals as goal
 
 pub loop-fact-preserved : goal.loop-fact-preserved

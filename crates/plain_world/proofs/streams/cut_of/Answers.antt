@@ -1,7 +1,7 @@
 use Rattle.std.proofs.Common.{arith, reverse}
 use Rattle.std.proofs.lemmas.Grind.{common_steps}
 use Rattle.history_model.specs.Folds.{was_handed}
-use Rattle.plain_world.proofs.Runs.{run_more}
+use Rattle.plain_world.proofs.Steps.{run_more}
 use Rattle.plain_world.proofs.streams.cut_of.Goals as goal
 
 pub loop-k-preserved : goal.loop-k-preserved
