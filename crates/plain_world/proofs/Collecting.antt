@@ -1,31 +1,30 @@
 -- In a legal history of the nine forms on one node, what is dead and stopped is what the plain definitions say of the
 -- facts that are folded.
-use Rattle.std.proofs.Common.{◌≡◌, ◌<◌, ◌+◌, ◌==◌, ◌&&◌, ◌||◌, ℕ, zero, suc, Bool, true, false, not, cond, List, [], ◌∷◌, ◌++◌, length, map, take, refl, sym, ◌∙◌, ap, subst, arith}
+use Rattle.std.proofs.Common.{◌≡◌, ◌<◌, ◌+◌, ◌==◌, ◌&&◌, ◌||◌, ℕ, zero, suc, Bool, true, false, not, List, [], ◌∷◌, ◌++◌, take, refl, sym, ◌∙◌, ap, subst, arith}
 use Rattle.std.proofs.lemmas.Bool.{false≢true}
 use Rattle.std.proofs.lemmas.Bool.Decides.{Decides-ltb}
 use Rattle.std.proofs.lemmas.List.{append-nil}
-use Rattle.std.specs.Prelude.{nat_lt, flat_map, None, Some, Option}
-use Rattle.std.specs.List.{filter, list_all, list_any}
+use Rattle.std.specs.Prelude.{nat_lt, flat_map}
+use Rattle.std.specs.List.{filter, list_all}
 use Rattle.crgc_ids.specs.Actor.{Actor}
 use Rattle.crgc_ids.specs.Greatest.{greatest}
 use Rattle.crgc_ids.specs.LostNodes.{lost_nodes}
 use Rattle.crgc_ids.specs.Nodes.{has_node}
 use Rattle.history_model.proofs.Basics.{eqb-equal, eqb-sym, legal-kept}
 use Rattle.history_model.specs.declared.events.Event.{Event}
-use Rattle.history_model.specs.declared.events.Event.TheVariants.{Seed, Tie, Wake, Take, Spawn, Send, Drop, Retire, Rest, Flush, Publish, Window, Admit, Lose, Repeat, Crash, Remove, Hand, Sweep}
-use Rattle.history_model.specs.declared.records.Stop.{Stop}
+use Rattle.history_model.specs.declared.events.Event.TheVariants.{Publish, Window, Remove}
 use Rattle.history_model.specs.Cluster.{Cluster}
-use Rattle.history_model.specs.Facts.{Fact, is_received, is_sent_to, is_created, is_released}
+use Rattle.history_model.specs.Facts.{is_received, is_sent_to, is_created, is_released}
 use Rattle.history_model.specs.Folds.{Fold, cut_at, folded, final_links, lost_of, is_lost}
-use Rattle.history_model.specs.Graph.{delta_facts, link_facts, notice_facts, has_edge, known_actors, last_flags, own_flags, may_act, is_balanced, is_pseudoroot, holds_actor, is_unreached, candidates, dead, named_by, rising_actors}
+use Rattle.history_model.specs.Graph.{delta_facts, link_facts, notice_facts, has_edge, known_actors, last_flags, own_flags, may_act, is_balanced, is_pseudoroot, holds_actor, is_unreached, dead, named_by, rising_actors}
 use Rattle.history_model.specs.Legal.{IsLegal}
-use Rattle.history_model.specs.Streams.{Notice, stream}
+use Rattle.history_model.specs.Streams.{stream}
 use Rattle.history_model.specs.Sweeps.{dead_at, stop_of}
 use Rattle.history_model.specs.Tally.{tally}
 use Rattle.plain_world.specs.declared.facts.PlainFact.{PlainFact}
 use Rattle.plain_world.specs.declared.facts.PlainFact.TheVariants.{Created, Released, Flagged}
-use Rattle.plain_world.specs.Built.{is_built, AreBuilt}
-use Rattle.plain_world.specs.Plain.{fact_of, facts_of, has_plain_edge, plain_known, is_plain_candidate, is_plain_unreached, plain_candidates, plain_dead, plain_stop}
+use Rattle.plain_world.specs.Built.{AreBuilt}
+use Rattle.plain_world.specs.Plain.{facts_of, has_plain_edge, plain_known, is_plain_candidate, is_plain_unreached, plain_dead, plain_stop}
 use Rattle.plain_world.proofs.Deltas.{AreDeltas, stream_deltas, deltas_take, deltas_no_links, deltas_no_link_facts, deltas_tell_all}
 
 -- the constants of a cluster of one node
@@ -82,7 +81,7 @@ module _ (v : ℕ) (f : Fold) (fs : List PlainFact) (deltas : AreDeltas (f 0)) (
   edge : (b a : Actor) → has_edge (one_node v) none_lost f b a ≡ has_plain_edge (facts_of fs) b a
   edge b a =
       let sum : tally (is_created b a) (delta_facts (f 0) ++ []) + tally (is_created b a) (link_facts none_lost (f 0) ++ []) ≡ tally (is_created b a) (facts_of fs) =
-          (let first = ap (tally (is_created b a)) all in let second = ap (tally (is_created b a)) links in omega arith) in
+      (let first = ap (tally (is_created b a)) all in let second = ap (tally (is_created b a)) links in omega arith) in
       λ i. nat_lt (tally (is_released b a) (all i)) (sum i)
 
   known : known_actors (one_node v) f ≡ plain_known (facts_of fs)
@@ -114,6 +113,7 @@ module _ (v : ℕ) (f : Fold) (fs : List PlainFact) (deltas : AreDeltas (f 0)) (
         or_false : (b : Bool) → not (b || false) ≡ not b
         or_false true = refl
         or_false false = refl
+
         here : (t : Bool) → (a.node == 0) ≡ t → not (may_act (own_flags f a) || false) ≡ (t && not (may_act (last_flags a (facts_of fs))))
         here true t =
             let own : own_flags f a ≡ last_flags a (facts_of fs) = ap (λ n. last_flags a (delta_facts (f n))) (eqb-equal a.node 0 t) ∙ ap (last_flags a) (sym told) in
@@ -139,7 +139,7 @@ module _ (m : ℕ) (h : List Event) (fs : List PlainFact) (built : AreBuilt h) w
       let f = folded (one_node v) m h in
       let deltas = deltas_take (cut_at (one_node v) m h 0) (stream (one_node v) 0 h) (stream_deltas (one_node v) 0 h built) in
       let others : (n : ℕ) → (n == 0) ≡ false → delta_facts (f n) ≡ [] =
-          λ n t. ap (λ ns. delta_facts (take (cut_at (one_node v) m h n) ns)) (no_stream v n h built legal t) ∙ none_told (cut_at (one_node v) m h n) in
+      λ n t. ap (λ ns. delta_facts (take (cut_at (one_node v) m h n) ns)) (no_stream v n h built legal t) ∙ none_told (cut_at (one_node v) m h n) in
       sym (ap (λ lost. dead (one_node v) lost f) (none_is_lost v f deltas) ∙ dead_plainly v f fs deltas told others)
 
   stops_of_one : (v : ℕ) → facts_of fs ≡ delta_facts (folded (one_node v) m h 0) → plain_stop (facts_of fs) ≡ stop_of (one_node v) (is_lost (one_node v) (folded (one_node v) m h)) (folded (one_node v) m h)

@@ -1,10 +1,9 @@
 -- Streams of the nine forms: they have Deltas alone.
-use Rattle.std.proofs.Common.{◌≡◌, ◌<◌, ◌≤◌, ◌+◌, ◌==◌, ℕ, zero, suc, Bool, true, false, not, cond, List, [], ◌∷◌, ◌++◌, length, take, refl, sym, ◌∙◌, ap, subst, arith}
+use Rattle.std.proofs.Common.{◌≡◌, ◌<◌, ◌≤◌, ◌+◌, ◌==◌, ℕ, zero, suc, Bool, true, false, cond, List, [], ◌∷◌, ◌++◌, length, take, refl, sym, ◌∙◌, ap, arith}
 use Rattle.std.proofs.lemmas.Bool.{false≢true}
 use Rattle.std.proofs.lemmas.List.{append_assoc, append-nil, length-append, take-append-le, take_all}
-use Rattle.history_model.proofs.Basics.{and_true, eqb-equal}
 use Rattle.history_model.specs.declared.events.Event.{Event}
-use Rattle.history_model.specs.declared.events.Event.TheVariants.{Seed, Tie, Wake, Take, Spawn, Send, Drop, Retire, Rest, Flush, Publish, Window, Admit, Lose, Repeat, Crash, Remove, Hand, Sweep}
+use Rattle.history_model.specs.declared.events.Event.TheVariants.{Publish, Window, Remove}
 use Rattle.history_model.specs.Cluster.{Cluster}
 use Rattle.history_model.specs.Facts.{Fact}
 use Rattle.history_model.specs.Folds.{links_into}

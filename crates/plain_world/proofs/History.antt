@@ -1,20 +1,17 @@
 -- Histories of the nine forms, and their beginnings.
-use Rattle.std.proofs.Common.{◌≡◌, ◌<◌, ◌+◌, ◌-◌, ℕ, zero, suc, Bool, true, false, not, List, [], ◌∷◌, ◌++◌, length, take, drop, reverse, get_or, refl, sym, ◌∙◌, ap, subst, arith}
+use Rattle.std.proofs.Common.{◌≡◌, ◌<◌, ◌+◌, ◌-◌, ℕ, zero, suc, true, false, not, List, [], ◌∷◌, ◌++◌, length, take, drop, reverse, get_or, refl, sym, ◌∙◌, ap, subst, arith}
 use Rattle.std.proofs.lemmas.Bool.{false≢true}
-use Rattle.std.proofs.lemmas.List.{take_more, reverse-append, take-append-drop, length-append, append-nil}
-use Rattle.std.specs.Prelude.{◌||◌}
+use Rattle.std.proofs.lemmas.List.{reverse-append, take-append-drop}
 use Rattle.std.specs.List.{list_any}
 use Rattle.crgc_ids.specs.Actor.{Actor}
 use Rattle.history_model.proofs.Basics.{legal-before}
 use Rattle.history_model.specs.declared.events.Event.{Event}
-use Rattle.history_model.specs.declared.events.Event.TheVariants.{Seed, Tie, Wake, Take, Spawn, Send, Drop, Retire, Rest, Flush, Publish, Window, Admit, Lose, Repeat, Crash, Remove, Hand, Sweep}
+use Rattle.history_model.specs.declared.events.Event.TheVariants.{Send, Admit, Crash}
 use Rattle.history_model.specs.Cluster.{Cluster}
 use Rattle.history_model.specs.Held.{gifts, gave, held}
 use Rattle.history_model.specs.Legal.{IsLegal}
-use Rattle.history_model.specs.Messages.{mail, taken, takes}
+use Rattle.history_model.specs.Messages.{mail, takes}
 use Rattle.history_model.specs.State.{is_up, is_crash}
-use Rattle.history_model.specs.Streams.{stream}
-use Rattle.history_model.specs.Tally.{tally}
 use Rattle.plain_world.specs.Built.{is_built, AreBuilt}
 use Rattle.plain_world.proofs.Steps.{reverse_more}
 

@@ -1,5 +1,5 @@
 -- Steps of loops: one more item.
-use Rattle.std.proofs.Common.{◌≡◌, ◌<◌, ◌+◌, ◌==◌, ◌&&◌, ℕ, Bool, true, false, cond, List, [], ◌∷◌, ◌++◌, length, take, get_or, map, reverse, add-one, refl, sym, ◌∙◌, ap, arith}
+use Rattle.std.proofs.Common.{◌≡◌, ◌<◌, ◌+◌, ◌==◌, ◌&&◌, ℕ, Bool, true, false, cond, List, [], ◌∷◌, ◌++◌, length, take, get_or, reverse, add-one, refl, sym, ◌∙◌, ap}
 use Rattle.std.proofs.lemmas.List.{map_more, reverse-append, take_more}
 use Rattle.std.proofs.lemmas.List.Elements.{filter-append}
 use Rattle.std.specs.List.{filter}
@@ -30,7 +30,7 @@ pub tally_more : (test : Fact → Bool) (fs : List PlainFact) (i : ℕ) (f : Pla
 tally_more test fs i f l e =
     let read : fact_of (get_or fs i f) ∷ [] ≡ fact_of f ∷ [] = ap (λ g. fact_of g ∷ []) (sym e) in
     let last : tally test (fact_of f ∷ []) ≡ cond (test (fact_of f)) 1 0 =
-        elim (test (fact_of f)) as (λ v. cond v (0 + 1) 0 ≡ cond v 1 0) [ true ↦ refl | false ↦ refl ] in
+    elim (test (fact_of f)) as (λ v. cond v (0 + 1) 0 ≡ cond v 1 0) [ true ↦ refl | false ↦ refl ] in
     ap (tally test) (map_more fact_of fs i f l ∙ ap (λ gs. facts_of (take i fs) ++ gs) read)
     ∙ tally-append test (facts_of (take i fs)) (fact_of f ∷ [])
     ∙ ap (λ n. tally test (facts_of (take i fs)) + n) last

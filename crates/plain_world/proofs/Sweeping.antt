@@ -1,5 +1,5 @@
 -- The actors that no earlier sweep stopped.
-use Rattle.std.proofs.Common.{◌≡◌, ◌==◌, ◌&&◌, ◌||◌, ℕ, Bool, true, false, not, List, [], ◌∷◌, refl, sym, ◌∙◌}
+use Rattle.std.proofs.Common.{◌≡◌, ◌==◌, ◌&&◌, ◌||◌, ℕ, Bool, true, false, not, List, ◌∷◌, refl, sym, ◌∙◌}
 use Rattle.std.specs.List.{filter}
 use Rattle.crgc_ids.specs.Actor.{Actor}
 use Rattle.crgc_ids.proofs.MembersLaws.{filter_all, filter_twice}
@@ -32,5 +32,5 @@ pub kept_more : (cl : Cluster) (e : Event) (p : List Event) (n : ℕ) (xs : List
     ≡ filter (λ a. (a.node == n) && not (is_stopped cl a (e ∷ p))) xs
 kept_more cl e p n xs =
     let both : (a : Actor) → (((a.node == n) && not (is_stopped cl a p)) && not (sweeps_away cl e p a)) ≡ ((a.node == n) && not (is_stopped cl a (e ∷ p))) =
-        λ a. rw (stopped_more cl e p a) (kept_twice (a.node == n) (is_stopped cl a p) (sweeps_away cl e p a)) in
+    λ a. rw (stopped_more cl e p a) (kept_twice (a.node == n) (is_stopped cl a p) (sweeps_away cl e p a)) in
     filter_twice (λ a. (a.node == n) && not (is_stopped cl a p)) (λ a. not (sweeps_away cl e p a)) xs ∙ (λ i. filter (λ a. both a i) xs)

@@ -1,11 +1,11 @@
 -- What the collector of one node computes from the facts that it has folded: without messages nothing is received, told
 -- or admitted, and no node is lost.
-use Rattle.std.specs.Prelude.{ℕ, ◌==◌, Bool, true, false, ◌&&◌, ◌||◌, not, nat_lt, List, [], ◌∷◌, map, flat_map}
+use Rattle.std.specs.Prelude.{ℕ, ◌==◌, Bool, false, ◌&&◌, ◌||◌, not, nat_lt, List, [], ◌∷◌, map, flat_map}
 use Rattle.std.specs.List.{filter, list_all}
 use Rattle.crgc_ids.specs.Actor.{Actor}
 use Rattle.crgc_ids.specs.Greatest.{greatest}
 use Rattle.history_model.specs.declared.events.Event.{Event}
-use Rattle.history_model.specs.declared.events.Event.TheVariants.{Drop, Flush, Publish, Sweep}
+use Rattle.history_model.specs.declared.events.Event.TheVariants.{Flush, Publish, Sweep}
 use Rattle.history_model.specs.declared.records.Stop.{Stop}
 use Rattle.history_model.specs.Cluster.{Cluster, same_actor}
 use Rattle.history_model.specs.Sweeps.{is_swept}

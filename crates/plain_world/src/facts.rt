@@ -5,9 +5,15 @@ use crgc_ids::ActorId;
 #[derive(Clone, Copy, Debug)]
 pub enum PlainFact {
     /// A reference to `target` was made for `owner`.
-    Created { owner: ActorId, target: ActorId },
+    Created {
+        owner: ActorId,
+        target: ActorId,
+    },
     /// `owner` gave up a reference to `target`.
-    Released { owner: ActorId, target: ActorId },
+    Released {
+        owner: ActorId,
+        target: ActorId,
+    },
     /// The flags of the actor when it was flushed.
     Flagged {
         actor: ActorId,

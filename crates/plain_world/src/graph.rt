@@ -154,12 +154,7 @@ pub fn is_in(actors: &[ActorId], actor: ActorId) -> bool
     actors.iter().any(|a| is_same(*a, actor))
 }
 
-fn is_unreached(
-    facts: &[PlainFact],
-    known: &[ActorId],
-    among: &[ActorId],
-    actor: ActorId,
-) -> bool
+fn is_unreached(facts: &[PlainFact], known: &[ActorId], among: &[ActorId], actor: ActorId) -> bool
     requires { known.now ≡ plain_known (facts_of facts.now) }
     ensures { result ≡ is_plain_unreached (facts_of facts.now) among.now actor }
 {
@@ -213,7 +208,11 @@ pub fn dead_of(
     let mut turns = dead.len();
     while turns > 0 {
         let left = prune_once(alloc, facts, known, dead.as_slice())?;
-        turns = if left.len() == dead.len() { 0 } else { turns - 1 };
+        turns = if left.len() == dead.len() {
+            0
+        } else {
+            turns - 1
+        };
         dead = left;
     }
     Ok(dead)

@@ -137,11 +137,7 @@ fn of_hand(
 
 /// The first rule that the event breaks after the history; None where it may follow. Quadratic time, where a log is
 /// needed.
-pub fn refusal_of(
-    alloc: Global,
-    history: &History,
-    event: &Event,
-) -> Result<Option<Rule>, NoMemory>
+pub fn refusal_of(alloc: Global, history: &History, event: &Event) -> Result<Option<Rule>, NoMemory>
     requires one_node { history.now.cluster.nodes ≡ 1 }
     requires built { AreBuilt history.now.past }
     requires event_built { is_built event.now ≡ true }

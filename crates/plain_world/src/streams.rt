@@ -120,7 +120,15 @@ pub fn told_by(
     let mut waiting = Vec::new(alloc);
     for (i, event) in events.iter().enumerate() {
         let earlier = &events[..i];
-        tell(&mut told, cluster, event, earlier, waiting.as_slice(), node, limit)?;
+        tell(
+            &mut told,
+            cluster,
+            event,
+            earlier,
+            waiting.as_slice(),
+            node,
+            limit,
+        )?;
         enqueue(&mut waiting, alloc, cluster, event, earlier, node)?;
     }
     Ok(told)

@@ -96,11 +96,7 @@ fn keep_unswept(
     }
 }
 
-fn on_node(
-    alloc: Global,
-    actors: &[ActorId],
-    node: NodeId,
-) -> Result<Vec<ActorId>, AllocError>
+fn on_node(alloc: Global, actors: &[ActorId], node: NodeId) -> Result<Vec<ActorId>, AllocError>
     ensures { IfOk result (λ v. v.items ≡ filter (λ a. a.node == node) actors.now) }
 {
     actors
@@ -215,7 +211,12 @@ fn stops_by(
     let known = known_actors_of(alloc, facts.as_slice())?;
     let dead = dead_of(alloc, facts.as_slice(), known.as_slice())?;
     let stopped = newly_dead(alloc, cluster, events, node, dead.as_slice())?;
-    stops_with_evidence(alloc, facts.as_slice(), known.as_slice(), stopped.as_slice())
+    stops_with_evidence(
+        alloc,
+        facts.as_slice(),
+        known.as_slice(),
+        stopped.as_slice(),
+    )
 }
 
 /// The cut that counts bulletins of node 0 alone. More than a cut can count are in no history within its limits.

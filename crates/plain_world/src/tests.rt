@@ -11,12 +11,7 @@ use std::process::Abort;
 use std::test::Fail;
 
 /// Puts the event last, which is of a built form, breaks no rule and passes no limit.
-fn follow(
-    rt: &impl Abort,
-    alloc: Global,
-    history: &mut History,
-    event: Event,
-) -> Result<(), Fail>
+fn follow(rt: &impl Abort, alloc: Global, history: &mut History, event: Event) -> Result<(), Fail>
     requires one_node { history.old.cluster.nodes ≡ 1 }
     requires built { AreBuilt history.old.past }
     requires legal { IsLegal history.old.cluster history.old.past }
@@ -65,17 +60,27 @@ fn a_dropped_child_is_stopped(rt: HostRuntime) -> Result<(), Fail> {
         Event::Seed { node },
         Event::Wake { actor: parent },
         Event::Spawn { parent },
-        Event::Drop { actor: parent, target: child },
+        Event::Drop {
+            actor: parent,
+            target: child
+        },
         Event::Rest { actor: parent },
         Event::Flush { actor: parent },
         Event::Flush { actor: child },
         Event::Publish { node },
-        Event::Hand { to: node, origin: node, number: 0 }
+        Event::Hand {
+            to: node,
+            origin: node,
+            number: 0
+        },
     ]?;
     let found = swept(&rt, rt.alloc(), node, 1, events)?;
     assert_eq!(rt; (found.cut.at(node), found.stops.len()), (1, 1));
     let stop = found.stops.get(0).ok_or("a stop")?;
-    assert_eq!(rt; (stop.actor, stop.received, stop.told, stop.admitted), (child, 0, 0, 0));
+    assert_eq!(rt;
+        (stop.actor, stop.received, stop.told, stop.admitted),
+        (child, 0, 0, 0)
+    );
     assert_eq!(rt; stop.owners.as_slice(), [child].as_slice());
     Ok(())
 }
@@ -91,7 +96,11 @@ fn an_actor_without_an_own_entry_keeps_its_child(rt: HostRuntime) -> Result<(), 
         Event::Spawn { parent },
         Event::Flush { actor: child },
         Event::Publish { node },
-        Event::Hand { to: node, origin: node, number: 0 }
+        Event::Hand {
+            to: node,
+            origin: node,
+            number: 0
+        },
     ]?;
     let found = swept(&rt, rt.alloc(), node, 1, events)?;
     assert_eq!(rt; (found.cut.at(node), found.stops.len()), (1, 0));
@@ -112,10 +121,22 @@ fn bulletins_are_folded_in_order(rt: HostRuntime) -> Result<(), Fail> {
         Event::Rest { actor },
         Event::Flush { actor },
         Event::Publish { node },
-        Event::Hand { to: node, origin: node, number: 2 },
+        Event::Hand {
+            to: node,
+            origin: node,
+            number: 2
+        },
         Event::Sweep { node },
-        Event::Hand { to: node, origin: node, number: 0 },
-        Event::Hand { to: node, origin: node, number: 0 }
+        Event::Hand {
+            to: node,
+            origin: node,
+            number: 0
+        },
+        Event::Hand {
+            to: node,
+            origin: node,
+            number: 0
+        },
     ]?;
     let found = swept(&rt, rt.alloc(), node, 1, events)?;
     assert_eq!(rt; (found.cut.at(node), found.stops.len()), (1, 0));

@@ -1,6 +1,6 @@
-use Rattle.std.proofs.Common.{◌≡◌, ◌<◌, ◌-◌, ◌∙◌, suc, refl, sym, length, drop, subst, ap, arith}
+use Rattle.std.proofs.Common.{◌≡◌, ◌<◌, ◌-◌, ◌∙◌, suc, refl, sym, length, drop, subst, arith}
 use Rattle.std.specs.Prelude.{None}
-use Rattle.history_model.specs.Graph.{last_flags, may_act}
+use Rattle.history_model.specs.Graph.{last_flags}
 use Rattle.plain_world.specs.Plain.{facts_of}
 use Rattle.plain_world.proofs.Flags.{last_flags_at}
 use Rattle.plain_world.proofs.graph.acts.Goals as goal

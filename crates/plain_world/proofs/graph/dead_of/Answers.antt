@@ -21,5 +21,5 @@ loop-turns-preserved c =
     let pruned = subst (λ xs. left ≡ filter (fit xs) xs) c.as_slice.ensures.value c.in_ok-left.ensures in
     let some : 0 < c.loop-turns.turns = omega arith in
     let turn : ((length left ≡ length before) × (c.if-len.turns ≡ 0)) ⊎ (c.if-len.turns ≡ c.loop-turns.turns - 1) =
-        elim c.if-len.branch [ then-len w ↦ inl (omega arith, omega arith) | else-len w ↦ inr (omega arith) ] in
+    elim c.if-len.branch [ then-len w ↦ inl (omega arith, omega arith) | else-len w ↦ inr (omega arith) ] in
     prune_turn fit c.loop-turns.turns c.if-len.turns before left some pruned turn ∙ c.loop-turns.invariant

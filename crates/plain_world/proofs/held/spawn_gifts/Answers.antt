@@ -1,4 +1,4 @@
-use Rattle.std.proofs.Common.{arith, reverse}
+use Rattle.std.proofs.Common.{reverse}
 use Rattle.plain_world.proofs.Gifts.{gifts_of_spawn}
 use Rattle.plain_world.proofs.held.spawn_gifts.Goals as goal
 

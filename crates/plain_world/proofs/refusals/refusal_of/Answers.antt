@@ -1,4 +1,4 @@
-use Rattle.std.proofs.Common.{◌≡◌, List, reverse, sym, ◌∙◌}
+use Rattle.std.proofs.Common.{◌≡◌, List, sym, ◌∙◌}
 use Rattle.history_model.specs.declared.events.Event.{Event}
 use Rattle.history_model.specs.declared.events.Event.TheVariants.{Drop}
 use Rattle.history_model.specs.Cluster.{Cluster}

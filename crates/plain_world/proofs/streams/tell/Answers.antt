@@ -3,7 +3,7 @@ use Rattle.std.proofs.lemmas.Grind.{common_steps}
 use Rattle.std.proofs.lemmas.List.{map-append}
 use Rattle.history_model.specs.Graph.{delta_facts}
 use Rattle.history_model.specs.Streams.{queue, stream}
-use Rattle.plain_world.specs.Plain.{fact_of, facts_of, is_publish_of}
+use Rattle.plain_world.specs.Plain.{fact_of, is_publish_of}
 use Rattle.plain_world.proofs.Deltas.{stream_length, stream_published, told_enough, told_more}
 use Rattle.plain_world.proofs.streams.tell.Goals as goal
 
@@ -24,6 +24,6 @@ returns c =
     let count = stream_length a.cluster a.node p c.requires.built.1 in
     let fewer : length (stream a.cluster a.node p) < a.limit = omega arith in
     let told : delta_facts (take a.limit (stream a.cluster a.node (a.event.now ∷ p))) ≡ delta_facts (take a.limit (stream a.cluster a.node p)) ++ queue a.cluster a.node p =
-        ap (λ ns. delta_facts (take a.limit ns)) (stream_published a.cluster a.node a.event.now p publishes) ∙ told_more a.limit (stream a.cluster a.node p) (queue a.cluster a.node p) fewer in
+    ap (λ ns. delta_facts (take a.limit ns)) (stream_published a.cluster a.node a.event.now p publishes) ∙ told_more a.limit (stream a.cluster a.node p) (queue a.cluster a.node p) fewer in
     let joined = map-append fact_of a.told.now.items a.waiting.now in
     grind (arith, common_steps)

@@ -12,5 +12,5 @@ returns c =
     let a = c.args in
     let h = reverse a.events.now in
     let cut : c.cut_of-cut.result ≡ cut_at a.cluster a.node h a.origin =
-        c.cut_of-cut.ensures ∙ sym (ap (run_of (λ k. was_handed a.node a.origin k h)) (stream_length a.cluster a.origin h c.requires.built)) in
+    c.cut_of-cut.ensures ∙ sym (ap (run_of (λ k. was_handed a.node a.origin k h)) (stream_length a.cluster a.origin h c.requires.built)) in
     subst (λ n. IfOk c.told_by.result (λ v. facts_of v.items ≡ delta_facts (take n (stream a.cluster a.origin h)))) cut c.told_by.ensures

@@ -1,4 +1,4 @@
-use Rattle.std.proofs.Common.{◌≡◌, ◌==◌, ◌&&◌, not, sym, subst, ap, ◌∙◌, take, reverse}
+use Rattle.std.proofs.Common.{◌==◌, ◌&&◌, not, sym, ap, ◌∙◌, take, reverse}
 use Rattle.std.specs.List.{filter}
 use Rattle.history_model.specs.Sweeps.{is_stopped}
 use Rattle.plain_world.specs.Plain.{sweeps_away}
