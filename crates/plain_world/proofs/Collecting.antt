@@ -10,7 +10,8 @@ use Rattle.crgc_ids.specs.Actor.{Actor}
 use Rattle.crgc_ids.specs.Greatest.{greatest}
 use Rattle.crgc_ids.specs.LostNodes.{lost_nodes}
 use Rattle.crgc_ids.specs.Nodes.{has_node}
-use Rattle.history_model.proofs.Basics.{eqb-equal, eqb-sym, legal-kept}
+use Rattle.std.proofs.lemmas.Bool.{eqb-true}
+use Rattle.history_model.proofs.Basics.{eqb-sym, legal-kept}
 use Rattle.history_model.specs.declared.events.Event.{Event}
 use Rattle.history_model.specs.declared.events.Event.TheVariants.{Publish, Window, Remove}
 use Rattle.history_model.specs.Cluster.{Cluster}
@@ -116,7 +117,7 @@ module _ (v : ℕ) (f : Fold) (fs : List PlainFact) (deltas : AreDeltas (f 0)) (
 
         here : (t : Bool) → (a.node == 0) ≡ t → not (may_act (own_flags f a) || false) ≡ (t && not (may_act (last_flags a (facts_of fs))))
         here true t =
-            let own : own_flags f a ≡ last_flags a (facts_of fs) = ap (λ n. last_flags a (delta_facts (f n))) (eqb-equal a.node 0 t) ∙ ap (last_flags a) (sym told) in
+            let own : own_flags f a ≡ last_flags a (facts_of fs) = ap (λ n. last_flags a (delta_facts (f n))) (eqb-true a.node 0 t) ∙ ap (last_flags a) (sym told) in
             rw own (or_false (may_act (last_flags a (facts_of fs))))
         here false t = rw (others a.node t) refl
 

@@ -3,7 +3,7 @@ use Rattle.std.proofs.Common.{◌≡◌, ◌<◌, ◌+◌, ◌==◌, ◌&&◌, �
 use Rattle.std.proofs.lemmas.List.{map_more, reverse-append, take_more}
 use Rattle.std.proofs.lemmas.List.Elements.{filter-append}
 use Rattle.std.specs.List.{filter}
-use Rattle.history_model.proofs.Basics.{tally-append}
+use Rattle.history_model.proofs.Lists.{tally-append}
 use Rattle.history_model.specs.Facts.{Fact}
 use Rattle.history_model.specs.Folds.{run_of}
 use Rattle.history_model.specs.Tally.{tally}

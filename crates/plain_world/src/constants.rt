@@ -1,7 +1,7 @@
 //! The constants of a cluster, and the tests on actors.
 ghost use Rattle.std.specs.Prelude.{◌≡◌};
 ghost use Rattle.history_model.specs.Cluster.{same_actor};
-ghost use Rattle.history_model.specs.Graph.{is_actor_below};
+ghost use Rattle.crgc_ids.specs.Actor.{is_actor_below};
 
 use crgc_ids::ActorId;
 use history_model::History;

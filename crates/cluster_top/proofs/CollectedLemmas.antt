@@ -1,0 +1,19 @@
+-- Every legal history is rightly collected, by the laws of the collector.
+use Rattle.std.proofs.Common.{◌≡◌, List, ◌∷◌, ◌++◌, ℕ, subst}
+use Rattle.crgc_ids.specs.Actor.{Actor}
+use Rattle.history_model.specs.declared.events.Event.{Event}
+use Rattle.history_model.specs.declared.events.Event.TheVariants.{Sweep}
+use Rattle.history_model.specs.Cluster.{Cluster}
+use Rattle.history_model.specs.Legal.{IsLegal}
+use Rattle.history_model.proofs.Basics.{legal-before}
+use Rattle.history_model.proofs.Stability.{quiescent-stays}
+use Rattle.history_model.proofs.Stopped.{stopped-quiescent, quiet-stopped}
+use Rattle.cluster_top.specs.Collected.{IsRightlyCollected}
+
+pub legal-rightly_collected : (cl : Cluster) (h : List Event) → IsLegal cl h → IsRightlyCollected cl h
+legal-rightly_collected cl h legal = record {
+  stops_are_right = λ later p is a stopped q longer.
+      quiescent-stays cl q p a longer (stopped-quiescent cl p a (legal-before cl later p (subst (IsLegal cl) is legal)) stopped);
+  none_is_left = λ later p m is quiet a on_m quiescent.
+      (quiet-stopped cl m p (legal-before cl later (Sweep m ∷ p) (subst (IsLegal cl) is legal)) quiet a on_m).1 quiescent;
+}

@@ -1,0 +1,5 @@
+pub mod LinesLemmas
+pub mod JournalLemmas
+pub mod FollowedLemmas
+pub mod WordsLemmas
+pub mod CollectedLemmas

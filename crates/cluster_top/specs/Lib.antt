@@ -1,0 +1,4 @@
+pub mod Journal
+pub mod Followed
+pub mod Collected
+pub mod Outcome

@@ -1,0 +1,82 @@
+-- What one call of the program does: what it came to, and what it wrote.
+use Rattle.std.specs.Prelude.{ℕ, ◌≡◌, ◌<◌, ◌⊎◌, List, [], ◌∷◌, ◌++◌, Option, length, take, codes}
+use Rattle.std.specs.Io.KnownBytes.{Appends, IsAtEnd}
+use Rattle.crgc_io.specs.Fault.{CountRose}
+use Rattle.crgc_io.specs.Taken.{Takes}
+use Rattle.history_model.specs.declared.events.Event.{Event}
+use Rattle.history_model.specs.Cluster.{Cluster}
+use Rattle.history_model.specs.Report.{report_of}
+use Rattle.cluster_top.specs.declared.status.Status.{Status}
+use Rattle.cluster_top.specs.declared.status.Status.TheVariants.{Done, Usage, ReadFault, WriteFault, Journal, NoMemory}
+use Rattle.cluster_top.specs.declared.status.Cause.TheVariants.{Unbuilt}
+use Rattle.cluster_top.specs.declared.refusal.Refusal.{Refusal}
+use Rattle.cluster_top.specs.declared.refusal.Refusal.TheVariants.{Usage as NoCommand, ReadFault as ReadStopped, Unbuilt as NotPlayed, NoMemory as OutOfMemory}
+use Rattle.cluster_top.specs.Collected.{IsRightlyCollected}
+use Rattle.cluster_top.specs.Journal.{IsJournal, IsNoJournal}
+
+-- the words are a command: the one word `play`
+abbrev pub IsCommand : List (List ℕ) → Type 0
+IsCommand words = words ≡ codes "play" ∷ []
+
+-- one line of text
+abbrev pub line_of : List ℕ → List ℕ
+line_of bytes = bytes ++ 10 ∷ []
+
+-- what the source gave in the call
+abbrev pub HasTaken : {S : Type 0} → (left given : S → Option (List ℕ)) (old new : S) → (List ℕ → Type 0) → Type 0
+HasTaken left given old new P = (taken : List ℕ) × Takes left given old new taken × P taken
+
+-- what the call came to before it wrote, with the text that it then had to write
+abbrev pub CameTo : {S : Type 0} → (left given : S → Option (List ℕ)) (faults : S → ℕ) (words : List (List ℕ)) (old new : S) → Status → List ℕ → Type 0
+CameTo left given faults words old new Done text =
+    IsCommand words × IsAtEnd (left new)
+    × HasTaken left given old new (λ taken. (cl : Cluster) × (h : List Event) × IsJournal cl h taken × IsRightlyCollected cl h × (text ≡ report_of cl h))
+CameTo left given faults words old new Usage text =
+    (¬ IsCommand words) × (new ≡ old) × (text ≡ line_of (codes "fault 2 usage"))
+CameTo left given faults words old new ReadFault text =
+    IsCommand words × CountRose (faults old) (faults new) × HasTaken left given old new (λ taken. length taken < 16777217)
+    × (text ≡ line_of (codes "fault 4 read"))
+CameTo left given faults words old new (WriteFault written) text = ⊥
+CameTo left given faults words old new (Journal line cause) text =
+    IsCommand words × (line ≡ 0)
+    × HasTaken left given old new (λ taken. (length taken ≡ 16777217) ⊎ (IsAtEnd (left new) × IsNoJournal taken))
+    × (text ≡ line_of (codes "fault 7 line 0 unbuilt"))
+CameTo left given faults words old new NoMemory text =
+    IsCommand words × HasTaken left given old new (λ taken. length taken < 16777218)
+    × (text ≡ line_of (codes "fault 8 memory"))
+
+-- all of the text was written, or a write failed after its first bytes
+abbrev pub IsWritten : {K : Type 0} → (held : K → Option (List ℕ)) (faults : K → ℕ) (old new : K) → (reason : Status) (text : List ℕ) (status : Status) → Type 0
+IsWritten held faults old new reason text status =
+    ((status ≡ reason) × Appends (held old) (held new) text)
+    ⊎ ((written : ℕ) × (status ≡ WriteFault written) × (written < length text)
+    × Appends (held old) (held new) (take written text) × CountRose (faults old) (faults new))
+
+-- the call came to something, and wrote it
+abbrev pub IsOutcome : {S K : Type 0} → (left given : S → Option (List ℕ)) (reads : S → ℕ) (held : K → Option (List ℕ)) (writes : K → ℕ) (words : List (List ℕ)) (source source' : S) (sink sink' : K) → Status → Type 0
+IsOutcome left given reads held writes words source source' sink sink' status =
+    (reason : Status) × (text : List ℕ) × CameTo left given reads words source source' reason text
+    × IsWritten held writes sink sink' reason text status
+
+-- the number with which the program ends
+abbrev pub exit_number_of : Status → ℕ
+exit_number_of Done = 0
+exit_number_of Usage = 2
+exit_number_of ReadFault = 4
+exit_number_of (WriteFault written) = 5
+exit_number_of (Journal line cause) = 7
+exit_number_of NoMemory = 8
+
+-- the status of a refusal
+abbrev pub status_of : Refusal → Status
+status_of NoCommand = Usage
+status_of ReadStopped = ReadFault
+status_of NotPlayed = Journal 0 Unbuilt
+status_of OutOfMemory = NoMemory
+
+-- the line that is written for it
+abbrev pub line_for : Refusal → List ℕ
+line_for NoCommand = line_of (codes "fault 2 usage")
+line_for ReadStopped = line_of (codes "fault 4 read")
+line_for NotPlayed = line_of (codes "fault 7 line 0 unbuilt")
+line_for OutOfMemory = line_of (codes "fault 8 memory")

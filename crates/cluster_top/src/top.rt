@@ -1,0 +1,107 @@
+//! The top call: words, source and sink in, a status out.
+ghost use Rattle.std.specs.Prelude.{◌≡◌, ◌≤◌, ◌↔◌, false, Err, IfOk, IfErr, map, string_bytes, IsTrue, codes, [], ◌∷◌};
+ghost use Rattle.std.specs.Io.KnownBytes.{IsAtEnd};
+ghost use Rattle.history_model.specs.Story.{Story};
+ghost use Rattle.cluster_top.specs.Outcome.{CameTo, IsCommand, IsOutcome, IsWritten, status_of, line_for};
+
+use crate::play::play;
+use crate::play_fault::PlayFault;
+use crate::refusal::Refusal;
+use crate::status::Status;
+use crgc_io::{Gate, ReadAll, Sink, Source, WriteFault, read_all, write_all};
+use history_model::History;
+use std::alloc::Global;
+use std::sync::Wait;
+use std::thread::Threads;
+
+/// How many bytes of input are read at most.
+const INPUT_LIMIT: usize = 16_777_216;
+
+/// All that the program does: it reads the words and the source, does what they ask, and writes to the sink. Without
+/// worker threads, which come later, it does nothing but `plain_top`; the gate is not called, and `kept` stays as it is.
+pub fn crgc_top<S: Source, K: Sink, G: Gate + Sync, R: Threads + Wait + Sync>(
+    _rt: &R,
+    alloc: Global,
+    words: &[String],
+    source: &mut S,
+    sink: &mut K,
+    _gate: &G,
+    kept: &mut Option<History>,
+) -> Status
+    ensures outcome { IsOutcome S.left S.given S.faults K.held K.faults (map string_bytes words.now)
+        source.old source.new sink.old sink.new result }
+    ensures reads_never_fall { S.faults source.old ≤ S.faults source.new }
+    ensures writes_never_fall { K.faults sink.old ≤ K.faults sink.new }
+    ensures kept { kept.new ≡ kept.old }
+{
+    plain_top(alloc, words, source, sink)
+}
+
+/// What `crgc_top` does where it needs no threads. It returns on every input.
+pub fn plain_top<S: Source, K: Sink>(
+    alloc: Global,
+    words: &[String],
+    source: &mut S,
+    sink: &mut K,
+) -> Status
+    ensures outcome { IsOutcome S.left S.given S.faults K.held K.faults (map string_bytes words.now)
+        source.old source.new sink.old sink.new result }
+    ensures reads_never_fall { S.faults source.old ≤ S.faults source.new }
+    ensures writes_never_fall { K.faults sink.old ≤ K.faults sink.new }
+{
+    match answer(alloc, words, source) {
+        Ok(report) => write_out(sink, report.as_slice(), Status::Done),
+        Err(refusal) => write_out(sink, refusal.line(), refusal.status()),
+    }
+}
+
+/// Whether the words ask for worker threads. None do yet.
+pub fn wants_workers(_words: &[String]) -> bool
+    ensures { result ≡ false }
+{
+    false
+}
+
+// What the words ask for: the text of the report, or why there is none.
+fn answer<S: Source>(alloc: Global, words: &[String], source: &mut S) -> Result<Vec<u8>, Refusal>
+    ensures report { IfOk result (λ v. CameTo S.left S.given S.faults (map string_bytes words.now)
+        source.old source.new Status.Done v.items) }
+    ensures refusal { IfErr result (λ r. CameTo S.left S.given S.faults (map string_bytes words.now)
+        source.old source.new (status_of r) (line_for r)) }
+    ensures never_falls { S.faults source.old ≤ S.faults source.new }
+{
+    if !is_command(words) {
+        return Err(Refusal::Usage);
+    }
+    match read_all(alloc, source, INPUT_LIMIT) {
+        Ok(text) => match play(alloc, text.as_slice()) {
+            Ok(report) => Ok(report),
+            Err(PlayFault::Unbuilt) => Err(Refusal::Unbuilt),
+            Err(PlayFault::NoMemory) => Err(Refusal::NoMemory),
+        },
+        Err(ReadAll::ReadFault) => Err(Refusal::ReadFault),
+        Err(ReadAll::TooLong) => Err(Refusal::Unbuilt),
+        Err(ReadAll::NoMemory) => Err(Refusal::NoMemory),
+    }
+}
+
+// Whether the words are the one word `play`.
+fn is_command(words: &[String]) -> bool
+    ensures { IsTrue result ↔ IsCommand (map string_bytes words.now) }
+{
+    match words {
+        [word] => word.as_bytes() == b"play".as_slice(),
+        _ => false,
+    }
+}
+
+// Writes the text, and answers the status, or that a write failed.
+fn write_out<K: Sink>(sink: &mut K, text: &[u8], status: Status) -> Status
+    ensures written { IsWritten K.held K.faults sink.old sink.new status text.now result }
+    ensures never_falls { K.faults sink.old ≤ K.faults sink.new }
+{
+    match write_all(sink, text) {
+        Ok(()) => status,
+        Err(WriteFault { written }) => Status::WriteFault { written },
+    }
+}
