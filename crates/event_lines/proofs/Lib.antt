@@ -3,3 +3,4 @@ pub mod FieldsLaws
 pub mod ShapesLaws
 pub mod EventsLaws
 pub mod WordsLaws
+pub mod MembersLaws

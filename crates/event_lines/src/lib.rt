@@ -7,7 +7,9 @@ mod pieces;
 mod print;
 mod read;
 mod shapes;
+mod verdict;
 mod words;
 
 pub use print::{append_end, append_event, append_header};
 pub use read::read_event;
+pub use verdict::append_verdict;

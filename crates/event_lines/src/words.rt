@@ -81,7 +81,7 @@ fn write_actors(out: &mut Vec<u8>, actors: &[ActorId]) -> Result<(), NoMemory>
 }
 
 /// A space and the word.
-fn write_word(out: &mut Vec<u8>, word: &Word<'_>) -> Result<(), NoMemory>
+pub fn write_word(out: &mut Vec<u8>, word: &Word<'_>) -> Result<(), NoMemory>
     ensures ok { OnOk result (out.new.items ≡ out.old.items ++ 32 ∷ bytes_of word.now) }
     ensures err { OnErr result (BeginsWith out.old.items out.new.items) }
 {
@@ -110,7 +110,7 @@ fn write_number(out: &mut Vec<u8>, n: u64) -> Result<(), NoMemory>
     write(out, buffer.format(n).as_bytes())
 }
 
-fn write(out: &mut Vec<u8>, bytes: &[u8]) -> Result<(), NoMemory>
+pub fn write(out: &mut Vec<u8>, bytes: &[u8]) -> Result<(), NoMemory>
     ensures ok { OnOk result (out.new.items ≡ out.old.items ++ bytes.now) }
     ensures err { OnErr result (BeginsWith out.old.items out.new.items) }
 {
