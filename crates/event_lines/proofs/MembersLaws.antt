@@ -1,9 +1,15 @@
 -- The members of a set of nodes, one after the other.
-use Rattle.std.proofs.Common.{◌≡◌, ◌<◌, ◌≤◌, ◌+◌, ℕ, Bool, true, false, cond, List, [], ◌∷◌, ◌++◌, nat_lt, ltb, inl, inr, refl, sym, ◌∙◌, ap, arith}
-use Rattle.std.proofs.lemmas.Bool.{le-ltb, lt-ltb}
+use Rattle.std.proofs.Common.{◌≡◌, ◌<◌, ◌≤◌, ◌+◌, ◌⊎◌, ℕ, Bool, true, false, cond, List, [], ◌∷◌, ◌++◌, append_assoc, append-nil, map, nat_lt, Option, Some, None, inl, inr, refl, sym, ◌∙◌, ap, subst, arith}
+use Rattle.std.proofs.lemmas.Bool.{cases_lt, le-ltb, lt-ltb}
+use Rattle.std.proofs.lemmas.Grind.{flat_map-append}
+use Rattle.std.proofs.lemmas.List.{map-append}
+use Rattle.std.proofs.lemmas.Option.{none-some, same_Some}
+use Rattle.std.specs.Fmt.{decimal}
 use Rattle.std.specs.List.{AllByRecursion}
+use Rattle.std.specs.Option.{IfSome}
 use Rattle.crgc_ids.specs.Members.{IsAmong}
 use Rattle.crgc_ids.specs.Rising.{IsRising}
+use Rattle.event_lines.specs.Words.{spaced}
 
 -- the members below n of a rising list
 abbrev pub below : ℕ → List ℕ → List ℕ
@@ -49,9 +55,20 @@ below-member n (x ∷ xs) r (inr a) =
 pub below-other : (n : ℕ) (xs : List ℕ) → IsRising ◌<◌ xs → ¬ IsAmong n xs → below (n + 1) xs ≡ below n xs
 below-other n [] r a = refl
 below-other n (x ∷ xs) r a =
-    elim (lt-or-le x n) [
+    elim (cases_lt x n) [
       | inl l ↦ rw (lt-ltb x (n + 1) (omega arith), lt-ltb x n l) (ap (λ t. x ∷ t) (below-other n xs r.1 (λ m. a (inr m))))
       | inr l ↦
         let other : x ≡ n → ⊥ = λ e. a (inl (sym e)) in
         rw (le-ltb x (n + 1) (omega arith), le-ltb x n l) refl
     ]
+
+-- one member more is written
+pub members-more : (old out new xs : List ℕ) (n k : ℕ) → k ≡ n → IsRising ◌<◌ xs → IsAmong k xs → out ≡ old ++ spaced (map decimal (below n xs)) → new ≡ out ++ 32 ∷ decimal k → new ≡ old ++ spaced (map decimal (below (n + 1) xs))
+members-more old out new xs n k same rising member before now =
+    let next = below-member n xs rising (subst (λ (i : ℕ). IsAmong i xs) same member) in
+    rw (now, before, same, next) (simp (map-append, flat_map-append, append_assoc, append-nil))
+
+-- the node that was asked for is the one that was made
+pub made-same : (r : Option ℕ) (k n : ℕ) → r ≡ Some k → IfSome r (λ x. x ≡ n) → k ≡ n
+made-same None k n e h = absurd (none-some k e)
+made-same (Some x) k n e h = sym (same_Some x k e) ∙ h

@@ -35,3 +35,8 @@ OnErr-any (Err e) P h = h
 pub OnOk-weaker : {T E : Type 0} (r : Result T E) (P Q : Type 0) → OnOk r P → (P → Q) → OnOk r Q
 OnOk-weaker (Ok x) P Q h f = f h
 OnOk-weaker (Err e) P Q h f = tt
+
+-- a line whose words have another first word among them
+pub labelled-written : (old name m label : List ℕ) (words others : List (List ℕ)) (a b c d e : List ℕ) → a ≡ old ++ name → b ≡ a ++ 32 ∷ m → c ≡ b ++ spaced words → d ≡ c ++ 32 ∷ label → e ≡ d ++ spaced others → e ++ 10 ∷ [] ≡ old ++ (join_with_byte 32 (name ∷ m ∷ (words ++ label ∷ others)) ++ 10 ∷ [])
+labelled-written old name m label words others a b c d e ea eb ec ed ee =
+    rw (ee, ed, ec, eb, ea, spell-spaced name (m ∷ (words ++ label ∷ others)), flat_map-append (λ w. 32 ∷ w) words (label ∷ others)) (simp append_assoc)
