@@ -121,7 +121,7 @@ passed : (v others : Bool) → (not v && others) ≡ true → (v ≡ false) × (
 passed true others t = absurd (false≢true t)
 passed false others t = (refl, t)
 
-free_bytes : (w : List ℕ) → list_all (λ b. not (eqb b 32)) w ≡ true → IsFreeOf 32 w
+pub free_bytes : (w : List ℕ) → list_all (λ b. not (eqb b 32)) w ≡ true → IsFreeOf 32 w
 free_bytes [] t = tt
 free_bytes (b ∷ w) t =
     let p = passed (eqb b 32) (list_all (λ x. not (eqb x 32)) w) t in
@@ -187,9 +187,9 @@ line_event-some line e r =
     option_and_then_some _ _ e r (λ w first made.
     let from = event-some w (drop 1 words) e made in
     (from.0, ap spell (from.1 ∙ cons-words words w first) ∙ join-pieces 32 line)) where
-  cons-words : (ws : List (List ℕ)) (w : List ℕ) → slice_get ws 0 ≡ Some w → w ∷ drop 1 ws ≡ ws
-  cons-words [] w e' = absurd (none-some w e')
-  cons-words (v ∷ ws) w e' = ap (λ x. x ∷ ws) (sym (same_Some v w e'))
+      cons-words : (ws : List (List ℕ)) (w : List ℕ) → slice_get ws 0 ≡ Some w → w ∷ drop 1 ws ≡ ws
+      cons-words [] w e' = absurd (none-some w e')
+      cons-words (v ∷ ws) w e' = ap (λ x. x ∷ ws) (sym (same_Some v w e'))
 
 -- no two events are spelled alike
 pub spell-injective : (e f : Event) → IsSpellable e → IsSpellable f → spell (event_words e) ≡ spell (event_words f) → e ≡ f

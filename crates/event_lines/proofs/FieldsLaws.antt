@@ -74,8 +74,8 @@ pub actor_of-word : (a : Actor) → IsActorName a → actor_of (actor_word a) �
 unfolding actor_of
 actor_of-word a name =
     let parts : pieces 46 (actor_word a) ≡ decimal a.node ∷ decimal a.serial ∷ [] =
-        pieces-join 46 (decimal a.node) (decimal a.serial ∷ [])
-        (decimal-free 46 a.node (omega arith) (omega (arith, name.0)), (decimal-free 46 a.serial (omega arith) (omega (arith, name.1)), tt)) in
+    pieces-join 46 (decimal a.node) (decimal a.serial ∷ [])
+    (decimal-free 46 a.node (omega arith) (omega (arith, name.0)), (decimal-free 46 a.serial (omega arith) (omega (arith, name.1)), tt)) in
     let node = number_of-decimal 16 a.node (omega arith) name.0 in
     let serial = number_of-decimal 262144 a.serial (omega arith) name.1 in
     rw parts (rw (node, serial) refl)
@@ -171,5 +171,5 @@ pub read-more : (limit : ℕ) (w : List ℕ) (i n : ℕ) → i < length w → Is
 read-more limit w i n lt h digit below = record {
   digits = rw (take_more w i 0 lt) (AllDigits-push (take i w) (get_or w i 0) h.digits digit);
   value = value-more limit w i n lt h digit;
-  small = below
+  small = below;
 }

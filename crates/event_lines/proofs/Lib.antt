@@ -4,3 +4,4 @@ pub mod ShapesLaws
 pub mod EventsLaws
 pub mod WordsLaws
 pub mod MembersLaws
+pub mod HeaderLaws

@@ -58,8 +58,8 @@ below-other n (x ∷ xs) r a =
     elim (cases_lt x n) [
       | inl l ↦ rw (lt-ltb x (n + 1) (omega arith), lt-ltb x n l) (ap (λ t. x ∷ t) (below-other n xs r.1 (λ m. a (inr m))))
       | inr l ↦
-        let other : x ≡ n → ⊥ = λ e. a (inl (sym e)) in
-        rw (le-ltb x (n + 1) (omega arith), le-ltb x n l) refl
+          let other : x ≡ n → ⊥ = λ e. a (inl (sym e)) in
+          rw (le-ltb x (n + 1) (omega arith), le-ltb x n l) refl
     ]
 
 -- one member more is written

@@ -34,7 +34,7 @@ references-words refs [] names room = ap Some (sym (append-nil refs))
 references-words refs (a ∷ as_) names room =
     rw (lt-ltb (length refs) 16 (omega arith))
     (rw (actor_of-word a names.0)
-      (references-words (refs ++ a ∷ []) as_ names.1 (omega (arith, length-append refs (a ∷ []))) ∙ ap Some (append_assoc refs (a ∷ []) as_)))
+    (references-words (refs ++ a ∷ []) as_ names.1 (omega (arith, length-append refs (a ∷ []))) ∙ ap Some (append_assoc refs (a ∷ []) as_)))
 
 pub message-words : (a b : Actor) (refs : List Actor) → IsActorName a → IsActorName b → AreActorNames refs → length refs ≤ 16 → message (actor_word a ∷ actor_word b ∷ map actor_word refs) ≡ Some (a, b, refs)
 message-words a b refs g h names room =
@@ -120,7 +120,7 @@ references-some refs (w ∷ ws) all e =
       is_all = later.is_all ∙ append_assoc refs (a ∷ []) later.others;
       names = (first.0, later.names);
       spelled = ap (λ v. v ∷ ws) (sym first.1) ∙ ap (λ l. actor_word a ∷ l) later.spelled;
-      room = λ h. later.room (omega (arith, length-append refs (a ∷ [])))
+      room = λ h. later.room (omega (arith, length-append refs (a ∷ [])));
     })
 
 pub message-some : (ws : List (List ℕ)) (m : Actor × Actor × List Actor) → message ws ≡ Some m → (IsActorName m.0 × IsActorName m.1 × AreActorNames m.2 × (length m.2 ≤ 16)) × (ws ≡ actor_word m.0 ∷ actor_word m.1 ∷ map actor_word m.2)
@@ -132,9 +132,10 @@ message-some ws m e = option_and_then_some _ _ m e (λ a ea e'. option_and_then_
     let all : end.0 ≡ read.others = read.is_all in
     let q : Actor × Actor × List Actor = (a, b, end.0) in
     let same : q ≡ m = end.2 in
-    subst (λ (x : Actor × Actor × List Actor). (IsActorName x.0 × IsActorName x.1 × AreActorNames x.2 × (length x.2 ≤ 16)) × (ws ≡ actor_word x.0 ∷ actor_word x.1 ∷ map actor_word x.2)) same
-    ((first.0, second.0, subst AreActorNames (sym all) read.names, read.room (omega arith)),
-      first.1 ∙ ap (λ l. actor_word a ∷ l) (second.1 ∙ ap (λ l. actor_word b ∷ l) (read.spelled ∙ ap (map actor_word) (sym all))))))
+    subst (λ (x : Actor × Actor × List Actor). (IsActorName x.0 × IsActorName x.1 × AreActorNames x.2 × (length x.2 ≤ 16)) × (ws ≡ actor_word x.0 ∷ actor_word x.1 ∷ map actor_word x.2)) same (
+      (first.0, second.0, subst AreActorNames (sym all) read.names, read.room (omega arith)),
+      first.1 ∙ ap (λ l. actor_word a ∷ l) (second.1 ∙ ap (λ l. actor_word b ∷ l) (read.spelled ∙ ap (map actor_word) (sym all))),
+    )))
 
 cons-first : (ws : List (List ℕ)) (w : List ℕ) → Some w ≡ slice_get ws 0 → ws ≡ w ∷ drop 1 ws
 cons-first [] w e = absurd (none-some w (sym e))

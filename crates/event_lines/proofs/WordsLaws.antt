@@ -12,11 +12,11 @@ begins-append old mid bs new e h =
     let short : length old ≤ length mid = omega (arith, ap length e, length-append old bs) in
     let front : take (length old) mid ≡ old = rw e (take-append-le (length old) old bs (omega arith) ∙ take_all (length old) old (omega arith)) in
     sym (take-front (length old) (length mid) new short) ∙ ap (take (length old)) h ∙ front where
-  take-front : (m n : ℕ) (xs : List ℕ) → m ≤ n → take m (take n xs) ≡ take m xs
-  take-front zero n xs l = refl
-  take-front (suc m) zero xs l = absurd (omega arith)
-  take-front (suc m) (suc n) [] l = refl
-  take-front (suc m) (suc n) (x ∷ xs) l = ap (λ t. x ∷ t) (take-front m n xs (omega arith))
+      take-front : (m n : ℕ) (xs : List ℕ) → m ≤ n → take m (take n xs) ≡ take m xs
+      take-front zero n xs l = refl
+      take-front (suc m) zero xs l = absurd (omega arith)
+      take-front (suc m) (suc n) [] l = refl
+      take-front (suc m) (suc n) (x ∷ xs) l = ap (λ t. x ∷ t) (take-front m n xs (omega arith))
 
 -- a line is its first word, and then each word after a space
 pub spell-spaced : (w : List ℕ) (ws : List (List ℕ)) → join_with_byte 32 (w ∷ ws) ≡ w ++ spaced ws

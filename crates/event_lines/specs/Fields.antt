@@ -28,3 +28,7 @@ actor_of word = actor_of_parts (pieces 46 word)
 -- what the first word says, as an actor
 abbrev pub first_actor : List (List ℕ) → Option Actor
 first_actor words = option_and_then actor_of (slice_get words 0)
+
+-- Some exactly where the first word is this text
+abbrev pub first_name : List ℕ → List (List ℕ) → Option (Unit {0})
+first_name text words = option_and_then (λ word. if bytes_eq word text then Some tt else None) (slice_get words 0)

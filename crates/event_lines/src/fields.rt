@@ -1,6 +1,6 @@
 //! What one word of a line says.
 ghost use Rattle.std.specs.Prelude.{◌≡◌, ◌<◌, ◌≤◌, ◌^◌, drop, IfSome};
-ghost use Rattle.event_lines.specs.Fields.{actor_of, first_actor, first_number, number_of};
+ghost use Rattle.event_lines.specs.Fields.{actor_of, first_actor, first_name, first_number, number_of};
 
 use crate::pieces::Pieces;
 use crgc_ids::{ActorId, NodeId};
@@ -44,6 +44,14 @@ pub fn actor(word: &[u8]) -> Option<ActorId>
 }
 
 impl Pieces<'_> {
+    /// Takes the first piece; Some exactly where it is this text.
+    pub fn name(&mut self, text: &[u8]) -> Option<()>
+        ensures value { result ≡ first_name text.now self.old }
+        ensures rest { self.new ≡ drop 1 self.old }
+    {
+        if self.next()? == text { Some(()) } else { None }
+    }
+
     /// Takes the first piece, as a number below the limit.
     pub fn number(&mut self, limit: u64) -> Option<u64>
         requires some { 1 ≤ limit }

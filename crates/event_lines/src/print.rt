@@ -55,7 +55,12 @@ fn append_nodes(
     ensures ok { OnOk result (out.new.items ≡ out.old.items ++ (spell (name.now ∷ decimal first ∷ decimal second ∷ []) ++ 10 ∷ [])) }
     ensures err { OnErr result (out.new.items ≡ out.old.items) }
 {
-    append_line(out, name, &[Word::of_node(first), Word::of_node(second)], &[])
+    append_line(
+        out,
+        name,
+        &[Word::of_node(first), Word::of_node(second)],
+        &[],
+    )
 }
 
 /// Appends a line with two nodes and a number.

@@ -44,22 +44,34 @@ fn actor_event(word: &[u8], fields: Pieces<'_>) -> Option<Event>
     ensures { result ≡ actor_event word.now fields.entry }
 {
     if word == b"take".as_slice() {
-        return Some(Event::Take { actor: fields.one_actor()? });
+        return Some(Event::Take {
+            actor: fields.one_actor()?,
+        });
     }
     if word == b"rest".as_slice() {
-        return Some(Event::Rest { actor: fields.one_actor()? });
+        return Some(Event::Rest {
+            actor: fields.one_actor()?,
+        });
     }
     if word == b"spawn".as_slice() {
-        return Some(Event::Spawn { parent: fields.one_actor()? });
+        return Some(Event::Spawn {
+            parent: fields.one_actor()?,
+        });
     }
     if word == b"flush".as_slice() {
-        return Some(Event::Flush { actor: fields.one_actor()? });
+        return Some(Event::Flush {
+            actor: fields.one_actor()?,
+        });
     }
     if word == b"wake".as_slice() {
-        return Some(Event::Wake { actor: fields.one_actor()? });
+        return Some(Event::Wake {
+            actor: fields.one_actor()?,
+        });
     }
     if word == b"retire".as_slice() {
-        return Some(Event::Retire { actor: fields.one_actor()? });
+        return Some(Event::Retire {
+            actor: fields.one_actor()?,
+        });
     }
     node_event(word, fields)
 }
@@ -70,16 +82,24 @@ fn node_event(word: &[u8], fields: Pieces<'_>) -> Option<Event>
     ensures { result ≡ node_event word.now fields.entry }
 {
     if word == b"seed".as_slice() {
-        return Some(Event::Seed { node: fields.one_node()? });
+        return Some(Event::Seed {
+            node: fields.one_node()?,
+        });
     }
     if word == b"publish".as_slice() {
-        return Some(Event::Publish { node: fields.one_node()? });
+        return Some(Event::Publish {
+            node: fields.one_node()?,
+        });
     }
     if word == b"crash".as_slice() {
-        return Some(Event::Crash { node: fields.one_node()? });
+        return Some(Event::Crash {
+            node: fields.one_node()?,
+        });
     }
     if word == b"sweep".as_slice() {
-        return Some(Event::Sweep { node: fields.one_node()? });
+        return Some(Event::Sweep {
+            node: fields.one_node()?,
+        });
     }
     pair_event(word, fields)
 }

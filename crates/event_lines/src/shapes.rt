@@ -1,6 +1,6 @@
 //! The words after the first, by the shapes of the forms.
 ghost use Rattle.std.specs.Prelude.{◌≡◌, [], IfOk};
-ghost use Rattle.event_lines.specs.Shapes.{link_number, message, one_actor, one_node, references_after, two_actors, two_nodes};
+ghost use Rattle.event_lines.specs.Shapes.{header_numbers, link_number, message, one_actor, one_node, references_after, two_actors, two_nodes};
 
 use crate::fields::actor;
 use crate::pieces::Pieces;
@@ -86,5 +86,20 @@ impl Pieces<'_> {
             Ok(None) => Ok(None),
             Err(_) => Err(NoMemory),
         }
+    }
+
+    /// The words of a header, and nothing else: the number of nodes and the version.
+    pub fn header(mut self) -> Option<(u8, u8)>
+        ensures { result ≡ header_numbers self.entry }
+    {
+        self.name(b"crgc")?;
+        let version = self.number(3)?;
+        self.name(b"nodes")?;
+        let nodes = self.number(17)?;
+        self.end()?;
+        if nodes == 0 || version == 0 {
+            return None;
+        }
+        Some((nodes as u8, version as u8))
     }
 }

@@ -28,7 +28,7 @@ loop-n-preserved c =
             let other = below-other n c.args.set c.contains.ensures.rising (λ m. false≢true (w.if-contains.ensures.member.1 (subst (λ (i : ℕ). IsAmong i c.args.set) (sym same) m))) in
             ap (λ v. v.items) w.out-is ∙ c.loop-n.invariant.written ∙ ap (λ l. old ++ spaced (map decimal l)) (sym other))
       ];
-      in_range = λ h. c.contains.ensures.in_range
+      in_range = λ h. c.contains.ensures.in_range;
     }
 
 pub returns-clause-ok : goal.returns-clause-ok

@@ -8,5 +8,5 @@ use Rattle.event_lines.proofs.verdict.write_members.Given as goal
 abbrev pub invariant-loop-n : goal.invariant-loop-n
 invariant-loop-n l = record {
   written : l.out.items ≡ l.fn.out.items ++ spaced (map decimal (below l.n l.set));
-  in_range : 0 < l.n → AllByRecursion (λ k. k < 16) l.set
+  in_range : 0 < l.n → AllByRecursion (λ k. k < 16) l.set;
 }
