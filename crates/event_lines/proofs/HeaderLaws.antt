@@ -1,16 +1,15 @@
 -- What is read from a header is what spells it.
-use Rattle.std.proofs.Common.{◌≡◌, ◌<◌, ◌≤◌, ◌^◌, ◌==◌, ◌||◌, ◌≢◌, ℕ, Bool, true, false, cond, eqb, List, [], ◌∷◌, ◌++◌, drop, Option, Some, None, codes, refl, sym, ◌∙◌, ap, subst, arith}
+use Rattle.std.proofs.Common.{◌≡◌, ◌≤◌, ◌||◌, ◌≢◌, ℕ, Bool, true, false, cond, eqb, List, [], ◌∷◌, drop, Option, Some, None, codes, refl, sym, ◌∙◌, ap, subst, arith}
 use Rattle.std.proofs.lemmas.Bool.{eq-eqb, false≢true, ne_eqb}
 use Rattle.std.proofs.lemmas.Option.{none-some, same_Some, option_and_then_some}
 use Rattle.std.proofs.lemmas.Slice.Eq.{bytes_eq-Decides}
 use Rattle.std.specs.Fmt.{decimal}
 use Rattle.std.specs.List.{AllByRecursion}
-use Rattle.std.specs.Option.{MatchOption, option_and_then}
+use Rattle.std.specs.Option.{MatchOption}
 use Rattle.std.specs.Str.{bytes_eq}
-use Rattle.history_model.specs.Cluster.{Cluster}
 use Rattle.history_model.specs.Lines.{header_words, spell}
-use Rattle.event_lines.specs.Fields.{first_name, first_number}
-use Rattle.event_lines.specs.Pieces.{nothing_left, pieces}
+use Rattle.event_lines.specs.Fields.{first_name}
+use Rattle.event_lines.specs.Pieces.{pieces}
 use Rattle.event_lines.specs.Shapes.{header_numbers}
 use Rattle.event_lines.proofs.EventsLaws.{free_bytes}
 use Rattle.event_lines.proofs.FieldsLaws.{decimal-free, first_number-some, nothing_left-some, number_of-decimal}

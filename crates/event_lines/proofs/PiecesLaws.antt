@@ -1,9 +1,9 @@
 -- Cutting bytes at a separator undoes joining pieces by it.
-use Rattle.std.proofs.Common.{◌≡◌, ◌<◌, ◌≢◌, ℕ, zero, suc, ◌≤◌, ◌+◌, ◌-◌, Bool, true, false, cond, Option, Some, None, add-one, List, [], ◌∷◌, ◌++◌, length, length-drop, take, drop, get_or, eqb, refl, sym, ◌∙◌, ap, subst, arith}
+use Rattle.std.proofs.Common.{◌≡◌, ◌<◌, ◌≢◌, ℕ, zero, suc, ◌+◌, ◌-◌, Bool, true, false, cond, None, add-one, List, [], ◌∷◌, ◌++◌, length, length-drop, take, drop, get_or, eqb, refl, sym, ◌∙◌, ap, arith}
 use Rattle.std.proofs.lemmas.Bool.{eq-eqb, ne_eqb}
 use Rattle.std.proofs.lemmas.List.{take_all}
 use Rattle.std.proofs.lemmas.List.Splits.{slice_split-cons_yes, slice_split-cons_no, join_with_byte-slice_split}
-use Rattle.std.specs.List.{AllByRecursion, join_with_byte, onto_first, slice_split}
+use Rattle.std.specs.List.{AllByRecursion, join_with_byte, onto_first}
 use Rattle.event_lines.specs.Pieces.{nothing_left, pieces, pieces_left}
 
 -- no byte of the piece is the separator

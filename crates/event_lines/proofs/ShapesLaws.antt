@@ -1,13 +1,12 @@
 -- What the words after the first say is what spells them.
-use Rattle.std.proofs.Common.{◌≡◌, ◌<◌, ◌≤◌, ◌^◌, ◌+◌, ℕ, zero, suc, Bool, true, false, cond, List, [], ◌∷◌, ◌++◌, length, length-append, append_assoc, append-nil, map, drop, slice_get, ltb, Option, Some, None, refl, sym, ◌∙◌, ap, subst, arith}
+use Rattle.std.proofs.Common.{◌≡◌, ◌<◌, ◌≤◌, ◌^◌, ◌+◌, ℕ, Bool, true, false, cond, List, [], ◌∷◌, ◌++◌, length, length-append, append_assoc, append-nil, map, drop, slice_get, ltb, Option, Some, None, refl, sym, ◌∙◌, ap, subst, arith}
 use Rattle.std.proofs.lemmas.Bool.{le-ltb, lt-ltb, ltb-true}
 use Rattle.std.proofs.lemmas.Option.{none-some, same_Some, option_and_then_some}
 use Rattle.std.specs.Fmt.{decimal}
-use Rattle.std.specs.Option.{option_and_then, option_map}
+use Rattle.std.specs.Option.{option_and_then}
 use Rattle.crgc_ids.specs.Actor.{Actor}
 use Rattle.history_model.specs.Lines.{actor_word, AreActorNames, IsActorName}
-use Rattle.event_lines.specs.Fields.{actor_of, first_actor, first_number}
-use Rattle.event_lines.specs.Pieces.{nothing_left}
+use Rattle.event_lines.specs.Fields.{actor_of}
 use Rattle.event_lines.specs.Shapes.{link_number, message, one_actor, one_node, references_after, two_actors, two_nodes}
 use Rattle.event_lines.proofs.FieldsLaws.{actor_of-some, actor_of-word, first_actor-some, first_number-some, nothing_left-some, number_of-decimal, option_map-some}
 

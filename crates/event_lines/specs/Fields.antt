@@ -1,5 +1,5 @@
 -- What one word of a line says.
-use Rattle.std.specs.Prelude.{ℕ, Bool, ◌&&◌, if◌then◌else◌, nat_lt, List, drop, slice_get, Option, Some, None, decimal, option_and_then, option_map}
+use Rattle.std.specs.Prelude.{ℕ, ◌&&◌, if◌then◌else◌, nat_lt, List, drop, slice_get, Option, Some, None, decimal, option_and_then, option_map}
 use Rattle.std.specs.Str.{bytes_eq}
 use Rattle.std.specs.Str.Parse.{digits_value}
 use Rattle.crgc_ids.specs.Actor.{Actor}

@@ -1,5 +1,4 @@
-use Rattle.std.proofs.Common.{arith, rules}
-use Rattle.std.proofs.lemmas.Grind.{common_steps}
+use Rattle.std.proofs.Common.{rules}
 use Rattle.event_lines.specs.Fields.{actor_of}
 use Rattle.event_lines.proofs.fields.actor.Goals as goal
 

@@ -1,9 +1,7 @@
-use Rattle.std.proofs.Common.{◌≡◌, ◌<◌, ◌+◌, ℕ, length, get_or, take, Some, arith, rules, subst}
+use Rattle.std.proofs.Common.{◌≡◌, ◌<◌, ◌+◌, length, get_or, take, arith, subst}
 use Rattle.std.proofs.lemmas.Grind.{common_steps}
 use Rattle.std.proofs.lemmas.List.{take_all}
-use Rattle.std.specs.Int.{IsInRange}
 use Rattle.std.specs.Str.Parse.{AllDigits, digits_value}
-use Rattle.event_lines.specs.Fields.{number_of}
 use Rattle.event_lines.proofs.FieldsLaws.{number_of-digits, number_of-empty, number_of-great, number_of-leading_zero, number_of-no_digit, read-more, value-more}
 use Rattle.event_lines.proofs.fields.number.Goals as goal
 use Rattle.event_lines.proofs.fields.number.Goals.{else-word-eq48-via-then-word-eq48+else-word-gt1, else-word-eq48-via-else-word-eq48}

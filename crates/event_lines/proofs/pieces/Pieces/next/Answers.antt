@@ -1,4 +1,4 @@
-use Rattle.std.proofs.Common.{◌≡◌, ◌<◌, ◌+◌, length, refl, ap, arith}
+use Rattle.std.proofs.Common.{◌<◌, ◌+◌, length, refl, ap, arith}
 use Rattle.event_lines.specs.Pieces.{pieces_left}
 use Rattle.event_lines.proofs.PiecesLaws.{left-first, left-last, take-rest}
 use Rattle.event_lines.proofs.pieces.Pieces.next.Goals as goal

@@ -1,5 +1,4 @@
-use Rattle.std.proofs.Common.{◌≡◌, ◌<◌, ◌≤◌, ◌++◌, ◌∷◌, [], length, drop, Option, Some, None, refl, sym, ap, ◌∙◌, arith}
-use Rattle.event_lines.specs.Fields.{actor_of}
+use Rattle.std.proofs.Common.{◌<◌, ◌≤◌, length, sym, ap, ◌∙◌, arith}
 use Rattle.event_lines.specs.Shapes.{references_after}
 use Rattle.event_lines.proofs.ShapesLaws.{fewer-words, references-bad, references-end, references-full, references-more}
 use Rattle.event_lines.proofs.pieces.Pieces.references.Goals as goal
