@@ -1,5 +1,5 @@
 //! Bytes cut at a separator, piece by piece.
-ghost use Rattle.std.specs.Prelude.{◌≡◌, ◌<◌, ◌≤◌, ◌≢◌, ℕ, [], ◌∷◌, IsTrue, ◌↔◌, length, drop, slice_get, slice_index};
+ghost use Rattle.std.specs.Prelude.{◌≡◌, ◌<◌, ◌≤◌, ◌≢◌, ℕ, length, drop, slice_get, slice_index};
 ghost use Rattle.std.specs.Option.{option_copied};
 ghost use Rattle.event_lines.specs.Pieces.{nothing_left, pieces};
 

@@ -82,7 +82,7 @@ fn append_link(
     append_line(out, name, &words, &[])
 }
 
-/// Appends the header of a history. After `NoMemory` the bytes are as before.
+/// Appends the header of a history of so many nodes, in this version. After `NoMemory` the bytes are as before.
 pub fn append_header(nodes: u8, version: u8, out: &mut Vec<u8>) -> Result<(), NoMemory>
     ensures ok { OnOk result (out.new.items ≡ out.old.items ++ (spell (header_words (record { nodes = nodes; version = version })) ++ 10 ∷ [])) }
     ensures err { OnErr result (out.new.items ≡ out.old.items) }
@@ -95,7 +95,8 @@ pub fn append_header(nodes: u8, version: u8, out: &mut Vec<u8>) -> Result<(), No
     append_line(out, b"crgc", &words, &[])
 }
 
-/// Appends the last line of a report. After `NoMemory` the bytes are as before.
+/// Appends the last line of a report: how many events the history has, and how many actors were stopped. After
+/// `NoMemory` the bytes are as before.
 pub fn append_end(events: u64, stopped: u64, out: &mut Vec<u8>) -> Result<(), NoMemory>
     ensures ok { OnOk result (out.new.items ≡ out.old.items ++ (spell (end_words events stopped) ++ 10 ∷ [])) }
     ensures err { OnErr result (out.new.items ≡ out.old.items) }

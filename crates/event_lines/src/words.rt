@@ -1,5 +1,5 @@
 //! Writing lines word by word.
-ghost use Rattle.std.specs.Prelude.{◌≡◌, [], ◌∷◌, ◌++◌, map, decimal, OnOk, OnErr};
+ghost use Rattle.std.specs.Prelude.{◌≡◌, ◌∷◌, ◌++◌, map, decimal, OnOk, OnErr};
 ghost use Rattle.history_model.specs.Lines.{actor_word};
 ghost use Rattle.event_lines.specs.Words.{BeginsWith, bytes_of, line_with, spaced};
 
@@ -23,7 +23,7 @@ impl Word<'_> {
     }
 }
 
-/// Appends a line of a first word, words and actors, with its line feed.
+/// Appends a line of a first word, words and actors, with its line feed. After `NoMemory` the bytes are as before.
 pub fn append_line(
     out: &mut Vec<u8>,
     name: &[u8],
@@ -110,6 +110,7 @@ fn write_number(out: &mut Vec<u8>, n: u64) -> Result<(), NoMemory>
     write(out, buffer.format(n).as_bytes())
 }
 
+/// The bytes as they are. Here as in the functions above, what was there still stands first after `NoMemory`.
 pub fn write(out: &mut Vec<u8>, bytes: &[u8]) -> Result<(), NoMemory>
     ensures ok { OnOk result (out.new.items ≡ out.old.items ++ bytes.now) }
     ensures err { OnErr result (BeginsWith out.old.items out.new.items) }
