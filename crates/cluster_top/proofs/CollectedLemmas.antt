@@ -1,5 +1,5 @@
 -- Every legal history is rightly collected, by the laws of the collector.
-use Rattle.std.proofs.Common.{◌≡◌, List, ◌∷◌, ◌++◌, ℕ, subst}
+use Rattle.std.proofs.Common.{◌≡◌, List, [], ◌∷◌, ◌++◌, ℕ, subst}
 use Rattle.crgc_ids.specs.Actor.{Actor}
 use Rattle.history_model.specs.declared.events.Event.{Event}
 use Rattle.history_model.specs.declared.events.Event.TheVariants.{Sweep}
@@ -15,5 +15,6 @@ legal-rightly_collected cl h legal = record {
   stops_are_right = λ later p is a stopped q longer.
       quiescent-stays cl q p a longer (stopped-quiescent cl p a (legal-before cl later p (subst (IsLegal cl) is legal)) stopped);
   none_is_left = λ later p m is quiet a on_m quiescent.
-      (quiet-stopped cl m p (legal-before cl later (Sweep m ∷ p) (subst (IsLegal cl) is legal)) quiet a on_m).1 quiescent;
+      let swept = legal-before cl later (Sweep m ∷ p) (subst (IsLegal cl) is legal) in
+      (quiet-stopped cl m p a swept quiet on_m).1 (quiescent-stays cl (Sweep m ∷ []) p a swept quiescent)
 }
