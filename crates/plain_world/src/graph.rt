@@ -1,10 +1,9 @@
 //! The graph of the folded facts: the actors that they name, the positive edges, and the dead.
-ghost use Rattle.std.specs.Prelude.{◌≡◌, ◌≤◌, ◌∷◌, length, take, IfOk, OnOk, MatchOption};
+ghost use Rattle.std.specs.Prelude.{◌≡◌, ◌≤◌, length, IfOk, OnOk, MatchOption};
 ghost use Rattle.std.specs.List.{insert, filter};
-ghost use Rattle.crgc_ids.specs.Greatest.{prune};
 ghost use Rattle.history_model.specs.Tally.{tally};
 ghost use Rattle.history_model.specs.Facts.{is_created, is_released};
-ghost use Rattle.history_model.specs.Graph.{insert_actor, named_by, rising_actors, last_flags, may_act, holds_actor};
+ghost use Rattle.history_model.specs.Graph.{insert_actor, named_by, last_flags, may_act, holds_actor};
 ghost use Rattle.plain_world.specs.Plain.{fact_of, facts_of, has_plain_edge, plain_known, is_plain_candidate, is_plain_unreached, plain_candidates, plain_dead, insert_actors};
 
 use crate::constants::{is_below, is_same};

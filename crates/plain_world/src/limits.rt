@@ -1,5 +1,5 @@
 //! The limits of a history.
-ghost use Rattle.std.specs.Prelude.{◌≡◌, true, length, reverse, IfOk};
+ghost use Rattle.std.specs.Prelude.{◌≡◌, true, reverse, IfOk};
 ghost use Rattle.history_model.specs.Limits.{named_count, passes_actors, passes_delta, limit_passed};
 ghost use Rattle.history_model.specs.Streams.{queue};
 ghost use Rattle.plain_world.specs.Built.{is_built, AreBuilt};
@@ -51,7 +51,8 @@ fn is_past_delta(
     }
 }
 
-/// The limit that the event would pass after the history. Cubic time at a `publish`, else linear.
+/// The limit that the event would pass after the history; None where it passes none. Cubic time at a `publish`, else
+/// linear. The answer is `NoMemory` too where the history itself is past the limit of actors.
 pub fn passed_limit(
     alloc: Global,
     history: &History,

@@ -3,7 +3,7 @@ ghost use Rattle.std.specs.Prelude.{◌≡◌, [], ◌∷◌, true, reverse, IfO
 ghost use Rattle.history_model.specs.declared.events.Event.TheVariants.{Spawn};
 ghost use Rattle.history_model.specs.Cluster.{newborn};
 ghost use Rattle.history_model.specs.Facts.{notes};
-ghost use Rattle.history_model.specs.Streams.{facts_by, log, entry, flags_at, flushed_flags, are_flags, can_flush};
+ghost use Rattle.history_model.specs.Streams.{facts_by, log, entry, flushed_flags, are_flags, can_flush};
 ghost use Rattle.plain_world.specs.Built.{is_built, AreBuilt};
 ghost use Rattle.plain_world.specs.Plain.{facts_of, is_flush_of};
 
@@ -183,7 +183,7 @@ fn flushed_after(
     }
 }
 
-/// Whether the actor was flushed, the last time with these flags.
+/// Whether the actor was flushed, the last time with these flags. Cubic time.
 fn was_flushed_as(events: &[Event], actor: ActorId, busy: bool, root: bool) -> bool
     ensures { result ≡ are_flags (flushed_flags actor (reverse events.now)) (record { busy = busy; root = root }) }
 {
@@ -194,7 +194,7 @@ fn was_flushed_as(events: &[Event], actor: ActorId, busy: bool, root: bool) -> b
     same
 }
 
-/// Whether the actor can be flushed. Quadratic time.
+/// Whether the actor can be flushed. Cubic time.
 pub fn may_flush(
     alloc: Global,
     cluster: Constants,

@@ -1,6 +1,6 @@
 //! The state of actors after a list of events, the oldest first. Each function is linear in the events, and quadratic
 //! where births are among them.
-ghost use Rattle.std.specs.Prelude.{◌≡◌, ◌+◌, ◌^◌, ◌<◌, ◌≤◌, ◌∷◌, length, reverse};
+ghost use Rattle.std.specs.Prelude.{◌≡◌, ◌<◌, ◌≤◌, ◌∷◌, length, reverse};
 ghost use Rattle.history_model.specs.Cluster.{is_birth_on, births, newborn, same_actor, is_born};
 ghost use Rattle.history_model.specs.State.{is_busy, is_root};
 

@@ -135,8 +135,8 @@ fn of_hand(
     }
 }
 
-/// The first rule that the event breaks after the history; None where it may follow. Quadratic time, where a log is
-/// needed.
+/// The first rule that the event breaks after the history; None where it may follow. Cubic time at a `flush`, else
+/// quadratic. The answer is `NoMemory` too where more actors were born on a node than its limit allows.
 pub fn refusal_of(alloc: Global, history: &History, event: &Event) -> Result<Option<Rule>, NoMemory>
     requires one_node { history.now.cluster.nodes ≡ 1 }
     requires built { AreBuilt history.now.past }

@@ -1,13 +1,12 @@
 //! The verdict of a sweep.
 ghost use Rattle.std.specs.Prelude.{◌≡◌, [], ◌∷◌, ◌++◌, ◌&&◌, ◌==◌, not, map, reverse, replicate, slice_set, IfOk, OnOk};
 ghost use Rattle.std.specs.List.{filter};
-ghost use Rattle.crgc_ids.specs.Actor.{Actor};
-ghost use Rattle.history_model.specs.Folds.{cut_at, folded};
+ghost use Rattle.history_model.specs.Folds.{folded};
 ghost use Rattle.history_model.specs.Graph.{delta_facts, holds_actor};
 ghost use Rattle.history_model.specs.Legal.{IsLegal};
 ghost use Rattle.history_model.specs.Sweeps.{IsVerdict, dead_at, is_stopped, stops_of};
 ghost use Rattle.plain_world.specs.Built.{AreBuilt};
-ghost use Rattle.plain_world.specs.Plain.{facts_of, has_plain_edge, plain_known, plain_dead, plain_stop, sweeps_away};
+ghost use Rattle.plain_world.specs.Plain.{facts_of, has_plain_edge, plain_known, plain_stop, sweeps_away};
 
 use crate::constants::Constants;
 use crate::facts::PlainFact;
@@ -254,7 +253,10 @@ fn verdict_of(
     })
 }
 
-/// The verdict of a sweep by the node: its cut, no lost node, and the stops with their evidence.
+/// The verdict of a sweep by the node: its cut, no lost node, and the stops with their evidence. The dead are computed
+/// once for each sweep so far; each time is cubic in the events, and at worst of the fourth power in the folded facts.
+/// The answer is `NoMemory` too where the history is past its limits: more actors on a node than serials, or more
+/// bulletins than a cut counts.
 pub fn verdict(alloc: Global, history: &History, node: NodeId) -> Result<Verdict, NoMemory>
     requires one_node { history.now.cluster.nodes ≡ 1 }
     requires built { AreBuilt history.now.past }

@@ -1,11 +1,11 @@
 //! Worked histories of one node, and what a sweep finds after each.
-ghost use Rattle.std.specs.Prelude.{◌≡◌, OnOk, IfOk};
+ghost use Rattle.std.specs.Prelude.{◌≡◌, ◌≤◌, IfOk};
 ghost use Rattle.history_model.specs.Legal.{IsLegal};
 ghost use Rattle.plain_world.specs.Built.{AreBuilt};
 
 use crate::{is_built_form, passed_limit, refusal_of, verdict};
 use crgc_ids::{ActorId, NodeId};
-use history_model::{Event, History, Rule, Verdict};
+use history_model::{Event, History, Verdict};
 use std::alloc::Global;
 use std::process::Abort;
 use std::test::Fail;
@@ -35,9 +35,10 @@ fn swept(
     version: u8,
     events: Vec<Event>,
 ) -> Result<Verdict, Fail>
-    requires { node ≡ 0 }
+    requires node { node ≡ 0 }
+    requires some_version { 1 ≤ version }
+    requires version { version ≤ 2 }
 {
-    let version = if version == 1 { 1 } else { 2 };
     let mut history = History::new(alloc, 1, version);
     for event in events {
         follow(rt, alloc, &mut history, event)?;
@@ -51,12 +52,14 @@ fn node_0() -> Result<NodeId, Fail>
     Ok(NodeId::new(0).ok_or("node 0")?)
 }
 
-#[test]
-fn a_dropped_child_is_stopped(rt: HostRuntime) -> Result<(), Fail> {
+fn drop_a_child(rt: &impl Abort, alloc: Global, version: u8) -> Result<(), Fail>
+    requires some_version { 1 ≤ version }
+    requires version { version ≤ 2 }
+{
     let node = node_0()?;
     let parent = ActorId::new(node, 0).ok_or("the parent")?;
     let child = ActorId::new(node, 1).ok_or("the child")?;
-    let events = vec![in rt.alloc();
+    let events = vec![in alloc;
         Event::Seed { node },
         Event::Wake { actor: parent },
         Event::Spawn { parent },
@@ -74,7 +77,7 @@ fn a_dropped_child_is_stopped(rt: HostRuntime) -> Result<(), Fail> {
             number: 0
         },
     ]?;
-    let found = swept(&rt, rt.alloc(), node, 1, events)?;
+    let found = swept(rt, alloc, node, version, events)?;
     assert_eq!(rt; (found.cut.at(node), found.stops.len()), (1, 1));
     let stop = found.stops.get(0).ok_or("a stop")?;
     assert_eq!(rt;
@@ -83,6 +86,12 @@ fn a_dropped_child_is_stopped(rt: HostRuntime) -> Result<(), Fail> {
     );
     assert_eq!(rt; stop.owners.as_slice(), [child].as_slice());
     Ok(())
+}
+
+#[test]
+fn a_dropped_child_is_stopped(rt: HostRuntime) -> Result<(), Fail> {
+    drop_a_child(&rt, rt.alloc(), 1)?;
+    drop_a_child(&rt, rt.alloc(), 2)
 }
 
 #[test]
