@@ -10,13 +10,14 @@ use Rattle.history_model.specs.Streams.{can_flush, queue, stream}
 use Rattle.history_model.specs.Folds.{cut_at}
 use Rattle.crgc_ids.specs.Members.{IsAmong}
 
--- the message is under way: its link is not closed, it was not admitted, and a copy is on the link
+-- the message is under way between two nodes: its link is not closed, it was not admitted, and a copy is on the link
 abbrev pub IsOnLink : List Event → Message → Type 0
 IsOnLink h m =
     (k : ℕ) × (message_at m.from.node m.to.node k h ≡ m ∷ [])
     × IsFalse (is_closed m.from.node m.to.node h)
     × IsFalse (was_admitted m.from.node m.to.node k h)
     × (0 < copies m.from.node m.to.node k h)
+    × (m.from.node ≢ m.to.node)
 
 -- the message may still be taken: its recipient's node is up, and it waits there or is under way
 abbrev pub IsLive : List Event → Message → Type 0
