@@ -1,3 +1,4 @@
+pub mod ActorLaws
 pub mod GreatestLaws
 mod LostNodesExamples
 pub mod LostNodesLaws

@@ -1,12 +1,10 @@
 -- The laws of `removed_nodes` and `lost_nodes`.
-use Rattle.std.proofs.Common.{◌≡◌, ◌≤◌, ◌<◌, ◌↔◌, ◌⊎◌, ◌&&◌, ◌||◌, ℕ, Bool, true, false, List, ◌++◌, eqb, refl, sym, ◌∙◌, ap, subst, inl, inr, arith}
-use Rattle.std.proofs.lemmas.Bool.{false≢true}
-use Rattle.std.proofs.lemmas.Bool.Decides.{Decides-eqb}
-use Rattle.std.specs.List.{filter, list_any}
-use Rattle.crgc_ids.specs.Greatest.{IsMonotone, greatest}
+use Rattle.std.proofs.Common.{◌≡◌, ◌<◌, ◌↔◌, ◌&&◌, ◌||◌, ℕ, Bool, true, false, List, ◌++◌, eqb, refl, sym, ◌∙◌, ap, subst, inl, inr, arith}
+use Rattle.std.proofs.lemmas.Bool.{and_parts, eq-eqb, eqb-true, false≢true, or_cases, or_left, or_right}
+use Rattle.std.specs.List.{list_any}
+use Rattle.crgc_ids.specs.Greatest.{IsMonotone}
 use Rattle.crgc_ids.specs.LostNodes.{IsLostSet, has_link, is_cut_off, lost_nodes, removed_nodes}
 use Rattle.crgc_ids.specs.Members.{IsAmong, IsPart}
-use Rattle.crgc_ids.specs.NodeFlags.{same_node}
 use Rattle.crgc_ids.specs.Nodes.{has_node, nodes_below}
 use Rattle.crgc_ids.specs.Rising.{IsRising}
 use Rattle.crgc_ids.proofs.GreatestLaws.{greatest-contains, greatest-filters, greatest-fit, greatest-part}
@@ -14,32 +12,19 @@ use Rattle.crgc_ids.proofs.MembersLaws.{IsAmong-append_cases, IsAmong-append_lef
 use Rattle.crgc_ids.proofs.NodesLaws.{has_node-from_true, has_node-member}
 use Rattle.crgc_ids.proofs.RisingLaws.{IsRising-filter, IsRising-range}
 
--- what one of two tests says, and what says it
-or_cases : (a b : Bool) → (a || b) ≡ true → (a ≡ true) ⊎ (b ≡ true)
-or_cases true b t = inl refl
-or_cases false b t = inr t
-
-or_right : (a b : Bool) → b ≡ true → (a || b) ≡ true
-or_right true b t = refl
-or_right false b t = t
-
-and_both : (a b : Bool) → (a && b) ≡ true → (a ≡ true) × (b ≡ true)
-and_both true b t = (refl, t)
-and_both false b t = absurd (false≢true t)
-
 link_of_test : (links : List (ℕ × ℕ)) (s d : ℕ) → has_link links s d ≡ true → IsAmong (s, d) links
 link_of_test links s d t =
     let found = list_any-true (λ l. eqb s l.0 && eqb d l.1) links t in
-    let both = and_both (eqb s found.0.0) (eqb d found.0.1) found.2 in
-    subst (λ x. IsAmong (s, x) links) (sym ((Decides-eqb d found.0.1).0 both.1))
-    (subst (λ x. IsAmong (x, found.0.1) links) (sym ((Decides-eqb s found.0.0).0 both.0)) found.1)
+    let both = and_parts (eqb s found.0.0) (eqb d found.0.1) found.2 in
+    subst (λ x. IsAmong (s, x) links) (sym (eqb-true d found.0.1 both.1))
+    (subst (λ x. IsAmong (x, found.0.1) links) (sym (eqb-true s found.0.0 both.0)) found.1)
 
 -- of more nodes outside which less is left, each is cut off
 is_cut_off-monotone : (n : ℕ) (links : List (ℕ × ℕ)) → IsMonotone (is_cut_off n links)
 is_cut_off-monotone n links xs ys s part t =
     list_all-members (λ d. has_node ys d || has_link links s d) (nodes_below n) (λ d m.
     elim (or_cases (has_node xs d) (has_link links s d) (list_all-true (λ k. has_node xs k || has_link links s k) d (nodes_below n) t m)) [
-      | inl inside ↦ ap (λ b. b || has_link links s d) (has_node-member ys d (part d (has_node-from_true xs d inside)))
+      | inl inside ↦ or_left (has_node ys d) (has_link links s d) (has_node-member ys d (part d (has_node-from_true xs d inside)))
       | inr linked ↦ or_right (has_node ys d) (has_link links s d) linked
     ])
 
@@ -50,9 +35,9 @@ removed_nodes-sources n links s = (
       let kept = IsAmong-from_filter (λ k. list_any (λ l. eqb k l.0) links) s (nodes_below n) h in
       let found = list_any-true (λ l. eqb s l.0) links kept.1 in
       let below = IsAmong-from_range s 0 n kept.0 in
-      (omega arith, (found.0.1, subst (λ x. IsAmong (x, found.0.1) links) (sym ((Decides-eqb s found.0.0).0 found.2)) found.1)),
+      (omega arith, (found.0.1, subst (λ x. IsAmong (x, found.0.1) links) (sym (eqb-true s found.0.0 found.2)) found.1)),
   λ h. IsAmong-filter (λ k. list_any (λ l. eqb k l.0) links) s (nodes_below n) (IsAmong-range s 0 n (omega arith) (omega arith))
-      (list_any-member (λ l. eqb s l.0) (s, h.1.0) links h.1.1 (same_node s)),
+      (list_any-member (λ l. eqb s l.0) (s, h.1.0) links h.1.1 (eq-eqb s s refl)),
 )
 
 -- the lost nodes are removed and cut off
@@ -84,7 +69,7 @@ lost_nodes-greatest n links xs lost =
       | true ↦ λ _. refl
       | false ↦ λ outside.
           let link = (lost s h).2 d (omega arith) (λ inside. false≢true (sym outside ∙ has_node-member xs d inside)) in
-          list_any-member (λ l. eqb s l.0 && eqb d l.1) (s, d) links link (ap (λ b. b && eqb d d) (same_node s) ∙ same_node d)
+          list_any-member (λ l. eqb s l.0 && eqb d l.1) (s, d) links link (ap (λ b. b && eqb d d) (eq-eqb s s refl) ∙ eq-eqb d d refl)
     ] in
     reached refl))
 

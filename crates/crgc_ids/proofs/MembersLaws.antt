@@ -1,8 +1,8 @@
 -- The members of lists that are joined or filtered.
 use Rattle.std.proofs.Common.{◌≡◌, ◌&&◌, ◌||◌, ◌<◌, ◌≤◌, ◌+◌, ◌⊎◌, ℕ, zero, suc, Bool, true, false, cond, List, [], ◌∷◌, ◌++◌, length, refl, sym, ◌∙◌, ap, subst, inl, inr, arith}
 use Rattle.std.proofs.lemmas.Bool.{cases_lt, false≢true}
-use Rattle.std.specs.List.{filter, list_all, list_any, range_with_len}
-use Rattle.crgc_ids.specs.Members.{IsAmong, IsPart}
+use Rattle.std.specs.List.{AllByRecursion, filter, list_all, list_any, range_with_len}
+use Rattle.crgc_ids.specs.Members.{IsAmong}
 
 module _ {A : Type 0} where
   pub IsAmong-append_left : (x : A) (xs ys : List A) → IsAmong x xs → IsAmong x (xs ++ ys)
@@ -97,6 +97,12 @@ module _ {A : Type 0} where
   list_all-members p [] h = refl
   list_all-members p (y ∷ ys) h =
       ap (λ b. b && list_all p ys) (h y (inl refl)) ∙ list_all-members p ys (λ x k. h x (inr k))
+
+  -- what is so of all members is so of each
+  pub all-member : (P : A → Type 0) (x : A) (xs : List A) → AllByRecursion P xs → IsAmong x xs → P x
+  all-member P x [] all h = absurd h
+  all-member P x (y ∷ ys) all (inl e) = subst P (sym e) all.0
+  all-member P x (y ∷ ys) all (inr h) = all-member P x ys all.1 h
 
 -- a number is among the n numbers from a on exactly where it is in their range
 pub IsAmong-range : (k a n : ℕ) → a ≤ k → k < a + n → IsAmong k (range_with_len a n)

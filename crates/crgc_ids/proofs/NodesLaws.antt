@@ -1,13 +1,13 @@
 -- Rising lists of nodes, and the flags that stand for them.
 use Rattle.std.proofs.Common.{◌≡◌, ◌≤◌, ◌<◌, ◌+◌, ◌↔◌, ◌⊎◌, ℕ, zero, suc, Bool, true, false, cond, List, [], ◌∷◌, length, set, get_or, eqb, ltb, refl, sym, ◌∙◌, ap, subst, inl, inr, arith}
-use Rattle.std.proofs.lemmas.Bool.{false≢true}
-use Rattle.std.proofs.lemmas.Bool.Decides.{Decides-eqb, Decides-like, nat_tests, same_from_decides}
+use Rattle.std.proofs.lemmas.Bool.{eq-eqb, eqb-true, false≢true, le-ltb, lt-ltb, ne_eqb}
+use Rattle.std.proofs.lemmas.Bool.Decides.{Decides-eqb, Decides-like, same_from_decides}
 use Rattle.std.proofs.lemmas.Slice.Eq.{slice_eq-Decides}
 use Rattle.std.specs.Bool.{Decides, beq}
 use Rattle.std.specs.Cmp.Lexicographic.{pointwise}
 use Rattle.std.specs.List.{AllByRecursion}
-use Rattle.crgc_ids.specs.Members.{IsAmong, IsPart}
-use Rattle.crgc_ids.specs.NodeFlags.{flagged-above, flagged_from, flags-flagged, flags_below, has_node-flagged, other', same_node}
+use Rattle.crgc_ids.specs.Members.{IsAmong}
+use Rattle.crgc_ids.specs.NodeFlags.{flagged-above, flagged_from, flags-flagged, flags_below, has_node-flagged}
 use Rattle.crgc_ids.specs.Nodes.{has_node, with_node}
 use Rattle.crgc_ids.specs.Rising.{IsRising}
 use Rattle.crgc_ids.proofs.MembersLaws.{list_any-member, list_any-true}
@@ -16,23 +16,19 @@ use Rattle.crgc_ids.proofs.MembersLaws.{list_any-member, list_any-true}
 pub has_node-from_true : (xs : List ℕ) (k : ℕ) → has_node xs k ≡ true → IsAmong k xs
 has_node-from_true xs k t =
     let found = list_any-true (λ x. eqb k x) xs t in
-    subst (λ x. IsAmong x xs) (sym ((Decides-eqb k found.0).0 found.2)) found.1
+    subst (λ x. IsAmong x xs) (sym (eqb-true k found.0 found.2)) found.1
 
 pub has_node-member : (xs : List ℕ) (k : ℕ) → IsAmong k xs → has_node xs k ≡ true
-has_node-member xs k h = list_any-member (λ x. eqb k x) k xs h (same_node k)
+has_node-member xs k h = list_any-member (λ x. eqb k x) k xs h (eq-eqb k k refl)
 
-not_below : (k x : ℕ) → x ≤ k → ltb k x ≡ false
-not_below k x l = grind (arith, nat_tests)
-
-is_below : (k x : ℕ) → k < x → ltb k x ≡ true
-is_below k x l = grind (arith, nat_tests)
-
+-- the flagged nodes end below the number of flags
 pub flagged-below : (n k : ℕ) (bs : List Bool) → k + length bs ≤ n → AllByRecursion (λ x. x < n) (flagged_from k bs)
 flagged-below n k [] h = tt
 flagged-below n k (b ∷ bs) h =
     let later = flagged-below n (k + 1) bs (omega arith) in
     elim b as (λ v. AllByRecursion (λ x. x < n) (cond v (k ∷ flagged_from (k + 1) bs) (flagged_from (k + 1) bs))) [ true ↦ (omega arith, later) | false ↦ later ]
 
+-- and they rise
 pub flagged-rise : (k : ℕ) (bs : List Bool) → IsRising ◌<◌ (flagged_from k bs)
 flagged-rise k [] = tt
 flagged-rise k (b ∷ bs) =
@@ -42,7 +38,7 @@ flagged-rise k (b ∷ bs) =
 -- a node below all others is put first
 with_node-first : (k : ℕ) (xs : List ℕ) → AllByRecursion (λ x. k < x) xs → with_node k xs ≡ k ∷ xs
 with_node-first k [] h = refl
-with_node-first k (x ∷ xs) h = rw (is_below k x h.0) refl
+with_node-first k (x ∷ xs) h = rw (lt-ltb k x h.0) refl
 
 -- to set the flag of a node is to put the node in
 flagged-set : (k i : ℕ) (bs : List Bool) → i < length bs → flagged_from k (set bs i true) ≡ with_node (k + i) (flagged_from k bs)
@@ -51,13 +47,13 @@ flagged-set k zero (b ∷ bs) h =
     let ms = flagged_from (k + 1) bs in
     let here : k + 0 ≡ k = omega arith in
     let first : with_node k ms ≡ k ∷ ms = with_node-first k ms (flagged-above k (k + 1) bs (omega arith)) in
-    let twice : with_node k (k ∷ ms) ≡ k ∷ ms = rw (not_below k k (omega arith), same_node k) refl in
+    let twice : with_node k (k ∷ ms) ≡ k ∷ ms = rw (le-ltb k k (omega arith), eq-eqb k k refl) refl in
     rw here (elim b as (λ v. k ∷ ms ≡ with_node k (cond v (k ∷ ms) ms)) [ true ↦ sym twice | false ↦ sym first ])
 flagged-set k (suc i) (b ∷ bs) h =
     let ms = flagged_from (k + 1) bs in
     let there : k + suc i ≡ (k + 1) + i = omega arith in
     let later : flagged_from (k + 1) (set bs i true) ≡ with_node (k + suc i) ms = rw there (flagged-set (k + 1) i bs (omega arith)) in
-    let beyond : with_node (k + suc i) (k ∷ ms) ≡ k ∷ with_node (k + suc i) ms = rw (not_below (k + suc i) k (omega arith), other' (k + suc i) k (omega arith)) refl in
+    let beyond : with_node (k + suc i) (k ∷ ms) ≡ k ∷ with_node (k + suc i) ms = rw (le-ltb (k + suc i) k (omega arith), ne_eqb (k + suc i) k (λ e. omega arith)) refl in
     elim b as (λ v. cond v (k ∷ flagged_from (k + 1) (set bs i true)) (flagged_from (k + 1) (set bs i true)) ≡ with_node (k + suc i) (cond v (k ∷ ms) ms)) [
       | true ↦ ap (λ xs. k ∷ xs) later ∙ sym beyond
       | false ↦ later
@@ -90,29 +86,6 @@ flags-equal n bs cs p q =
     (Decides-like (pointwise beq bs cs) (λ e. ap (flagged_from 0) e) (λ e. sym (flags-flagged n bs p) ∙ ap (flags_below n) e ∙ flags-flagged n cs q) flags)
     nodes
 
-all_member : {A : Type 0} (P : A → Type 0) (x : A) (xs : List A) → AllByRecursion P xs → IsAmong x xs → P x
-all_member P x [] all h = absurd h
-all_member P x (y ∷ ys) all (inl e) = subst P (sym e) all.0
-all_member P x (y ∷ ys) all (inr h) = all_member P x ys all.1 h
-
--- rising lists of the same nodes are equal
-pub rising-same : (xs ys : List ℕ) → IsRising ◌<◌ xs → IsRising ◌<◌ ys → IsPart xs ys → IsPart ys xs → xs ≡ ys
-rising-same [] [] r s p q = refl
-rising-same [] (y ∷ ys) r s p q = absurd (q y (inl refl))
-rising-same (x ∷ xs) [] r s p q = absurd (p x (inl refl))
-rising-same (x ∷ xs) (y ∷ ys) r s p q =
-    let first : x ≡ y = elim (p x (inl refl)) [
-      | inl e ↦ e
-      | inr h ↦ elim (q y (inl refl)) [
-        | inl e ↦ sym e
-        | inr k ↦ (let below = all_member (λ z. y < z) x ys s.0 h in let above = all_member (λ z. x < z) y xs r.0 k in absurd (omega arith))
-      ]
-    ] in
-    let rest : xs ≡ ys = rising-same xs ys r.1 s.1
-    (λ z h. let above = all_member (λ z. x < z) z xs r.0 h in elim (p z (inr h)) [ inl e ↦ absurd (omega arith) | inr k ↦ k ])
-    (λ z h. let above = all_member (λ z. y < z) z ys s.0 h in elim (q z (inr h)) [ inl e ↦ absurd (omega arith) | inr k ↦ k ]) in
-    ap (λ z. z ∷ xs) first ∙ ap (λ zs. y ∷ zs) rest
-
 -- the members after a node is put in: the node, and those before
 pub IsAmong-with_node : (x k : ℕ) (xs : List ℕ) → IsAmong x (with_node k xs) ↔ ((x ≡ k) ⊎ IsAmong x xs)
 IsAmong-with_node x k [] = (λ h. h, λ h. h)
@@ -125,7 +98,7 @@ IsAmong-with_node x k (y ∷ ys) =
     ) in
     let Here : Bool → Type 0 = λ b. eqb k y ≡ b → Told (cond b (y ∷ ys) (y ∷ with_node k ys)) in
     let here : Here (eqb k y) = elim (eqb k y) as Here [
-      | true ↦ λ t. (λ h. inr h, λ h. elim h [ inl e ↦ inl (e ∙ (Decides-eqb k y).0 t) | inr m ↦ m ])
+      | true ↦ λ t. (λ h. inr h, λ h. elim h [ inl e ↦ inl (e ∙ eqb-true k y t) | inr m ↦ m ])
       | false ↦ λ _. beyond
     ] in
     elim (ltb k y) as (λ b. Told (cond b (k ∷ y ∷ ys) (cond (eqb k y) (y ∷ ys) (y ∷ with_node k ys)))) [

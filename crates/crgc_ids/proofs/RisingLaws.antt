@@ -1,23 +1,10 @@
 -- When a list goes on rising as a row is put last.
-use Rattle.std.proofs.Common.{◌≡◌, ◌<◌, ◌+◌, ℕ, zero, suc, Bool, true, false, cond, List, [], ◌∷◌, ◌++◌, sym, ◌∙◌, subst, inl, inr, arith}
+use Rattle.std.proofs.Common.{◌≡◌, ◌<◌, ◌+◌, ℕ, zero, suc, Bool, true, false, cond, List, [], ◌∷◌, ◌++◌, refl, sym, ◌∙◌, ap, inl, inr, arith}
 use Rattle.std.proofs.ByRecursion.{All-push}
 use Rattle.std.specs.List.{AllByRecursion, filter, range_with_len}
-use Rattle.crgc_ids.specs.Actor.{Actor, IsActorBelow, IsPairBelow}
+use Rattle.crgc_ids.specs.Members.{IsPart}
 use Rattle.crgc_ids.specs.Rising.{IsRising}
-
--- the order of actors is transitive
-pub IsActorBelow-trans : (a b c : Actor) → IsActorBelow a b → IsActorBelow b c → IsActorBelow a c
-IsActorBelow-trans a b c (inl h) (inl k) = inl (omega arith)
-IsActorBelow-trans a b c (inl h) (inr k) = inl (omega arith)
-IsActorBelow-trans a b c (inr h) (inl k) = inl (omega arith)
-IsActorBelow-trans a b c (inr h) (inr k) = inr (omega arith)
-
--- the order of pairs is transitive
-pub IsPairBelow-trans : (a s b t c u : Actor) → IsPairBelow a s b t → IsPairBelow b t c u → IsPairBelow a s c u
-IsPairBelow-trans a s b t c u (inl h) (inl k) = inl (IsActorBelow-trans a b c h k)
-IsPairBelow-trans a s b t c u (inl h) (inr k) = inl (subst (IsActorBelow a) k.0 h)
-IsPairBelow-trans a s b t c u (inr h) (inl k) = inl (subst (λ o. IsActorBelow o c) (sym h.0) k)
-IsPairBelow-trans a s b t c u (inr h) (inr k) = inr (h.0 ∙ k.0, IsActorBelow-trans s t u h.1 k.1)
+use Rattle.crgc_ids.proofs.MembersLaws.{all-member}
 
 module _ {X : Type 0} (below : X → X → Type 0) where
   -- a row above all the rows of a rising list may be put last
@@ -56,3 +43,21 @@ IsRising-range a (suc n) = (all_above a (a + 1) n (omega arith), IsRising-range 
     all_above : (k a n : ℕ) → k < a → AllByRecursion (λ x. k < x) (range_with_len a n)
     all_above k a zero h = tt
     all_above k a (suc n) h = (h, all_above k (a + 1) n (omega arith))
+
+-- rising lists of the same nodes are equal
+pub rising-same : (xs ys : List ℕ) → IsRising ◌<◌ xs → IsRising ◌<◌ ys → IsPart xs ys → IsPart ys xs → xs ≡ ys
+rising-same [] [] r s p q = refl
+rising-same [] (y ∷ ys) r s p q = absurd (q y (inl refl))
+rising-same (x ∷ xs) [] r s p q = absurd (p x (inl refl))
+rising-same (x ∷ xs) (y ∷ ys) r s p q =
+    let first : x ≡ y = elim (p x (inl refl)) [
+      | inl e ↦ e
+      | inr h ↦ elim (q y (inl refl)) [
+        | inl e ↦ sym e
+        | inr k ↦ (let below = all-member (λ z. y < z) x ys s.0 h in let above = all-member (λ z. x < z) y xs r.0 k in absurd (omega arith))
+      ]
+    ] in
+    let rest : xs ≡ ys = rising-same xs ys r.1 s.1
+    (λ z h. let above = all-member (λ z. x < z) z xs r.0 h in elim (p z (inr h)) [ inl e ↦ absurd (omega arith) | inr k ↦ k ])
+    (λ z h. let above = all-member (λ z. y < z) z ys s.0 h in elim (q z (inr h)) [ inl e ↦ absurd (omega arith) | inr k ↦ k ]) in
+    ap (λ z. z ∷ xs) first ∙ ap (λ zs. y ∷ zs) rest

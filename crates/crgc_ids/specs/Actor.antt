@@ -1,5 +1,5 @@
 -- What contracts see of an actor: its node's number, and its serial on that node.
-use Rattle.std.specs.Prelude.{ℕ, ◌≡◌, ◌<◌, ◌⊎◌}
+use Rattle.std.specs.Prelude.{ℕ, ◌≡◌, ◌<◌, ◌⊎◌, ◌==◌, ◌&&◌, ◌||◌, Bool, nat_lt}
 
 pub record Actor : Type 0 where
   pub node : ℕ
@@ -13,3 +13,11 @@ IsActorBelow a b = (a.node < b.node) ⊎ ((a.node ≡ b.node) × (a.serial < b.s
 abbrev pub IsPairBelow : Actor → Actor → Actor → Actor → Type 0
 IsPairBelow owner target owner' target' =
     IsActorBelow owner owner' ⊎ ((owner ≡ owner') × IsActorBelow target target')
+
+-- whether two actors are one
+abbrev pub same_actor : Actor → Actor → Bool
+same_actor a b = (a.node == b.node) && (a.serial == b.serial)
+
+-- whether the first actor is below the second
+abbrev pub is_actor_below : Actor → Actor → Bool
+is_actor_below a b = nat_lt a.node b.node || ((a.node == b.node) && nat_lt a.serial b.serial)

@@ -1,7 +1,7 @@
 -- A set of nodes by the flags of its members, and how the set gives the flags back.
 use Rattle.std.specs.Prelude.{ℕ, Bool, cond, List, [], ◌∷◌}
-use Rattle.std.proofs.Common.{◌≡◌, ◌<◌, ◌+◌, ◌||◌, zero, suc, true, false, length, map, get_or, eqb, refl, sym, ◌∙◌, ap, arith}
-use Rattle.std.proofs.lemmas.Bool.Decides.{Decides-eqb, nat_tests}
+use Rattle.std.proofs.Common.{◌≡◌, ◌<◌, ◌+◌, ◌||◌, zero, suc, true, false, length, map, get_or, refl, sym, ◌∙◌, ap, arith}
+use Rattle.std.proofs.lemmas.Bool.{eq-eqb, ne_eqb}
 use Rattle.std.proofs.lemmas.List.FromFn.{fill_by_all}
 use Rattle.std.specs.List.{AllByRecursion}
 use Rattle.crgc_ids.specs.Nodes.{has_node, nodes_below}
@@ -15,15 +15,6 @@ flagged_from k (b ∷ bs) = cond b (k ∷ flagged_from (k + 1) bs) (flagged_from
 abbrev pub flags_below : ℕ → List ℕ → List Bool
 flags_below n xs = map (has_node xs) (nodes_below n)
 
-pub same_node : (k : ℕ) → eqb k k ≡ true
-same_node k = (Decides-eqb k k).1 refl
-
-pub other : (k x : ℕ) → k < x → eqb k x ≡ false
-other k x l = grind (arith, nat_tests)
-
-pub other' : (k x : ℕ) → x < k → eqb k x ≡ false
-other' k x l = grind (arith, nat_tests)
-
 -- the flagged nodes from k on are k or more
 pub flagged-above : (l k : ℕ) (bs : List Bool) → l < k → AllByRecursion (λ x. l < x) (flagged_from k bs)
 flagged-above l k [] h = tt
@@ -34,7 +25,7 @@ flagged-above l k (b ∷ bs) h =
 -- no node below all members is a member
 has_node-below : (k : ℕ) (xs : List ℕ) → AllByRecursion (λ x. k < x) xs → has_node xs k ≡ false
 has_node-below k [] h = refl
-has_node-below k (x ∷ xs) h = rw (other k x h.0) (has_node-below k xs h.1)
+has_node-below k (x ∷ xs) h = rw (ne_eqb k x (λ e. omega arith)) (has_node-below k xs h.1)
 
 -- the flag says whether its node is a member
 pub has_node-flagged : (k i : ℕ) (bs : List Bool) → i < length bs → has_node (flagged_from k bs) (k + i) ≡ get_or bs i false
@@ -43,7 +34,7 @@ has_node-flagged k zero (b ∷ bs) h =
     let ms = flagged_from (k + 1) bs in
     let here : k + 0 ≡ k = omega arith in
     rw here (elim b as (λ v. has_node (cond v (k ∷ ms) ms) k ≡ v) [
-      | true ↦ ap (λ t. t || has_node ms k) (same_node k)
+      | true ↦ ap (λ t. t || has_node ms k) (eq-eqb k k refl)
       | false ↦ has_node-below k ms (flagged-above k (k + 1) bs (omega arith))
     ])
 has_node-flagged k (suc i) (b ∷ bs) h =
@@ -51,7 +42,7 @@ has_node-flagged k (suc i) (b ∷ bs) h =
     let there : k + suc i ≡ (k + 1) + i = omega arith in
     let later : has_node ms (k + suc i) ≡ get_or bs i false = rw there (has_node-flagged (k + 1) i bs (omega arith)) in
     elim b as (λ v. has_node (cond v (k ∷ ms) ms) (k + suc i) ≡ get_or bs i false) [
-      | true ↦ ap (λ t. t || has_node ms (k + suc i)) (other' (k + suc i) k (omega arith)) ∙ later
+      | true ↦ ap (λ t. t || has_node ms (k + suc i)) (ne_eqb (k + suc i) k (λ e. omega arith)) ∙ later
       | false ↦ later
     ]
 

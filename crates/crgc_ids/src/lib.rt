@@ -27,3 +27,6 @@ pub enum Which {
     Actors,
     Delta,
 }
+
+#[cfg(test)]
+mod tests;

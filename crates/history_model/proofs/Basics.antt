@@ -1,7 +1,7 @@
 -- What all proofs about histories use: equality of actors, tallies, and what legality gives.
 use Rattle.std.proofs.Common.{◌≡◌, ◌<◌, ◌≤◌, ◌+◌, ◌&&◌, ◌||◌, ℕ, Bool, true, false, not, List, [], ◌∷◌, ◌++◌, length, refl, sym, ◌∙◌, ap, subst, inl, inr, arith, eqb}
 use Rattle.std.proofs.lemmas.Bool.{false≢true}
-use Rattle.std.proofs.lemmas.Bool.Decides.{Decides-eqb}
+use Rattle.std.proofs.lemmas.Bool.Decides.{Decides-eqb, same_from_decides}
 use Rattle.std.specs.Prelude.{Option, Some, None, if◌then◌else◌, ◌⊎◌, cond}
 use Rattle.crgc_ids.specs.Actor.{Actor}
 use Rattle.history_model.specs.declared.events.Event.{Event}
@@ -85,3 +85,15 @@ legal-kept cl e p legal = first_broken-none (checks cl e p) legal.0
 pub legal-before : (cl : Cluster) (q p : List Event) → IsLegal cl (q ++ p) → IsLegal cl p
 legal-before cl [] p legal = legal
 legal-before cl (e ∷ q) p legal = legal-before cl q p legal.1
+
+-- ---- tests that accounts compare
+
+pub and-false : (b : Bool) → (b && false) ≡ false
+and-false true = refl
+and-false false = refl
+
+pub eqb-sym : (m n : ℕ) → eqb m n ≡ eqb n m
+eqb-sym m n = same_from_decides (eqb m n) (eqb n m) (Decides-eqb m n) (λ t. sym ((Decides-eqb n m).0 t), λ e. (Decides-eqb n m).1 (sym e))
+
+pub same_actor-sym : (a b : Actor) → same_actor a b ≡ same_actor b a
+same_actor-sym a b = rw (eqb-sym a.node b.node, eqb-sym a.serial b.serial) refl

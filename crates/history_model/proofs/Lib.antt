@@ -1,2 +1,9 @@
 pub mod Basics
 pub mod Sums
+pub mod AccountsBirths
+pub mod AccountsGrowth
+pub mod AccountsNotes
+pub mod AccountsCopies
+pub mod AccountsOpen
+pub mod AccountsMail
+pub mod AccountsTaken

@@ -1,0 +1,4 @@
+pub mod Edges
+pub mod Fault
+pub mod Memory
+pub mod Taken

@@ -1,0 +1,98 @@
+//! The program's edges: std's readers and writers as a source and a sink.
+ghost use Rattle.std.specs.Prelude.{◌≡◌, ◌<◌, ◌≤◌, None, IfOk, OnErr, if◌then◌else◌, is_err, length};
+ghost use Rattle.std.specs.Io.{ReadsAtMost, WritesAtMost};
+ghost use Rattle.std.specs.Io.KnownBytes.{ReadConsumes, WriteAppends};
+ghost use Rattle.crgc_io.specs.Edges.{source_inner, source_faults, sink_inner, sink_faults};
+ghost use Rattle.crgc_io.specs.Fault.{CountRose, raised};
+
+use crate::traits::{Failed, Sink, Source};
+use std::io::{Read, Write};
+
+/// A source over a reader of std. Each error of a read counts as a fault. It tells the bytes left
+/// where the reader's contract tells them.
+#[derive(Drop)]
+pub struct StdSource<R> {
+    inner: R,
+    faults: u64,
+}
+
+impl<R: Read> StdSource<R> {
+    /// The source over this reader, with no fault counted.
+    pub fn new(inner: R) -> StdSource<R>
+        ensures inner { source_inner result ≡ inner }
+        ensures faults { source_faults result ≡ 0 }
+    {
+        StdSource { inner, faults: 0 }
+    }
+}
+
+impl<R: Read> Source for StdSource<R> {
+    ghost left = { λ s. R.remaining (source_inner s) };
+
+    ghost given = { λ _. None };
+
+    ghost faults = { source_faults };
+
+    fn read(&mut self, buf: &mut [u8]) -> Result<usize, Failed>
+        ensures bound { ReadsAtMost result buf.new }
+        ensures bytes { ReadConsumes (R.remaining (source_inner self.old))
+            (R.remaining (source_inner self.new)) result buf.new }
+        ensures never_falls { source_faults self.old ≤ source_faults self.new }
+        ensures failed { OnErr result
+            (CountRose (source_faults self.old) (source_faults self.new)) }
+        ensures counts { let before = source_faults self.old in
+            source_faults self.new ≡ (if is_err result then raised before else before) }
+    {
+        match self.inner.read(buf) {
+            Ok(n) => Ok(n),
+            Err(_) => {
+                self.faults = self.faults.saturating_add(1);
+                Err(Failed)
+            }
+        }
+    }
+}
+
+/// A sink over a writer of std. Each error of a write counts as a fault, and so does a write that
+/// takes nothing of a piece that is not empty. It tells the bytes held where the writer's contract
+/// tells them.
+#[derive(Drop)]
+pub struct StdSink<W> {
+    inner: W,
+    faults: u64,
+}
+
+impl<W: Write> StdSink<W> {
+    /// The sink over this writer, with no fault counted.
+    pub fn new(inner: W) -> StdSink<W>
+        ensures inner { sink_inner result ≡ inner }
+        ensures faults { sink_faults result ≡ 0 }
+    {
+        StdSink { inner, faults: 0 }
+    }
+}
+
+impl<W: Write> Sink for StdSink<W> {
+    ghost held = { λ s. W.contents (sink_inner s) };
+
+    ghost faults = { sink_faults };
+
+    fn write(&mut self, piece: &[u8]) -> Result<usize, Failed>
+        ensures bound { WritesAtMost result piece.now }
+        ensures progress { IfOk result (λ n. 0 < length piece.now → 0 < n) }
+        ensures bytes { WriteAppends (W.contents (sink_inner self.old))
+            (W.contents (sink_inner self.new)) result piece.now }
+        ensures never_falls { sink_faults self.old ≤ sink_faults self.new }
+        ensures failed { OnErr result (CountRose (sink_faults self.old) (sink_faults self.new)) }
+        ensures counts { let before = sink_faults self.old in
+            sink_faults self.new ≡ (if is_err result then raised before else before) }
+    {
+        match self.inner.write(piece) {
+            Ok(n) if n > 0 || piece.is_empty() => Ok(n),
+            _ => {
+                self.faults = self.faults.saturating_add(1);
+                Err(Failed)
+            }
+        }
+    }
+}

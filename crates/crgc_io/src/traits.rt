@@ -1,0 +1,48 @@
+//! What reads and what writes.
+ghost use Rattle.std.specs.Prelude.{◌≡◌, ℕ, ◌<◌, ◌≤◌, List, Option, length, IfOk, OnErr, take};
+ghost use Rattle.std.specs.Io.{ReadsAtMost, WritesAtMost};
+ghost use Rattle.std.specs.Io.KnownBytes.{ReadConsumes, Appends, Keeps, WriteAppends};
+ghost use Rattle.crgc_io.specs.Fault.{CountRose};
+
+/// A read or a write that moved nothing, and that its object counted as a fault.
+#[derive(Clone, Copy, PartialEq, Eq, Debug)]
+pub struct Failed;
+
+/// Bytes that come in pieces, and a count of faults that never falls.
+pub trait Source {
+    // the bytes that reads will give from here on, where it tells them
+    ghost left: { Self → Option (List ℕ) };
+
+    // the bytes that reads have given so far, where it records them
+    ghost given: { Self → Option (List ℕ) };
+
+    // how many faults it has counted; the count stands still at 18,446,744,073,709,551,615
+    ghost faults: { Self → ℕ };
+
+    /// Reads into the front of `buf`, and answers how many bytes it gave. 0 for a `buf` that is not
+    /// empty is the end.
+    fn read(&mut self, buf: &mut [u8]) -> Result<usize, Failed>
+        ensures bound { ReadsAtMost result buf.new }
+        ensures bytes { ReadConsumes (left self.old) (left self.new) result buf.new }
+        ensures record { WriteAppends (given self.old) (given self.new) result buf.new }
+        ensures never_falls { faults self.old ≤ faults self.new }
+        ensures failed { OnErr result (CountRose (faults self.old) (faults self.new)) };
+}
+
+/// Where bytes go in pieces, and a count of faults that never falls.
+pub trait Sink {
+    // the bytes that it holds, where it tells them
+    ghost held: { Self → Option (List ℕ) };
+
+    // how many faults it has counted; the count stands still at 18,446,744,073,709,551,615
+    ghost faults: { Self → ℕ };
+
+    /// Takes bytes from the front of `piece`, and answers how many: at least one, where `piece` is
+    /// not empty.
+    fn write(&mut self, piece: &[u8]) -> Result<usize, Failed>
+        ensures bound { WritesAtMost result piece.now }
+        ensures progress { IfOk result (λ n. 0 < length piece.now → 0 < n) }
+        ensures bytes { WriteAppends (held self.old) (held self.new) result piece.now }
+        ensures never_falls { faults self.old ≤ faults self.new }
+        ensures failed { OnErr result (CountRose (faults self.old) (faults self.new)) };
+}
