@@ -15,7 +15,7 @@ flagged_from k (b ∷ bs) = cond b (k ∷ flagged_from (k + 1) bs) (flagged_from
 abbrev pub flags_below : ℕ → List ℕ → List Bool
 flags_below n xs = map (has_node xs) (nodes_below n)
 
--- the flagged nodes from k on are k or more
+-- a number below k is below all flagged nodes from k on
 pub flagged-above : (l k : ℕ) (bs : List Bool) → l < k → AllByRecursion (λ x. l < x) (flagged_from k bs)
 flagged-above l k [] h = tt
 flagged-above l k (b ∷ bs) h =

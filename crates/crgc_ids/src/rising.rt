@@ -13,12 +13,12 @@ use std::alloc::Global;
 use std::marker::Model;
 use std::slice::Iter;
 
-/// What may be a row of a rising list.
+/// A row of a rising list.
 pub trait Row: Copy {
-    /// One row is strictly below another.
+    /// The first row is strictly below the second.
     ghost is_below: { Self → Self → Type 0 };
 
-    /// A row may stand in a list.
+    /// What each row of a list meets, as that its count is not 0.
     ghost may_stand: { Self → Type 0 };
 }
 
@@ -77,7 +77,8 @@ impl<T: Row> RisingList<T> {
         }
     }
 
-    /// Puts the row last, above which no row stands; after `NoMemory` the list is as before. Amortized constant time.
+    /// Puts the row last; it is above all rows of the list. After `NoMemory` the list is as before. Amortized constant
+    /// time.
     pub fn push(&mut self, row: T) -> Result<(), NoMemory>
         requires rising { IsRising T.is_below (self.old ++ row ∷ []) }
         requires stands { T.may_stand row }

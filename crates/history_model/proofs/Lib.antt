@@ -7,3 +7,9 @@ pub mod AccountsCopies
 pub mod AccountsOpen
 pub mod AccountsMail
 pub mod AccountsTaken
+pub mod LinksWindows
+pub mod LinksStreams
+pub mod LinksSettled
+pub mod LinksSums
+pub mod LinksMail
+pub mod LinksLost

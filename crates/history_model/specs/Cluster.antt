@@ -1,6 +1,7 @@
 -- The constants of a cluster, and the actors born in it. Every history is a list of events, the newest first.
 use Rattle.std.specs.Prelude.{ℕ, ◌==◌, Bool, false, ◌&&◌, nat_lt, List}
 use Rattle.crgc_ids.specs.Actor.{Actor}
+pub use Rattle.crgc_ids.specs.Actor.{same_actor}
 use Rattle.history_model.specs.declared.events.Event.{Event}
 use Rattle.history_model.specs.declared.events.Event.TheVariants.{Seed, Spawn}
 use Rattle.history_model.specs.Tally.{tally}
@@ -9,9 +10,6 @@ use Rattle.history_model.specs.Tally.{tally}
 pub record Cluster : Type 0 where
   pub nodes : ℕ
   pub version : ℕ
-
-abbrev pub same_actor : Actor → Actor → Bool
-same_actor a b = (a.node == b.node) && (a.serial == b.serial)
 
 -- a seed or spawn event on node n
 abbrev pub is_birth_on : ℕ → Event → Bool

@@ -2,7 +2,7 @@
 -- count, and what others admitted from them counts in its place.
 use Rattle.std.specs.Prelude.{ℕ, zero, suc, ◌+◌, ◌==◌, Bool, true, false, ◌&&◌, ◌||◌, not, if◌then◌else◌, nat_lt, List, [], ◌∷◌, ◌++◌, Option, Some, None, unwrap_or, flat_map}
 use Rattle.std.specs.List.{list_any, list_all, filter}
-use Rattle.crgc_ids.specs.Actor.{Actor}
+use Rattle.crgc_ids.specs.Actor.{Actor, is_actor_below}
 use Rattle.crgc_ids.specs.Greatest.{greatest}
 use Rattle.crgc_ids.specs.Nodes.{nodes_below}
 use Rattle.history_model.specs.Tally.{tally}
@@ -77,9 +77,6 @@ named_by (sent_to a) = a ∷ []
 named_by (created b a) = b ∷ a ∷ []
 named_by (released b a) = b ∷ a ∷ []
 named_by (flagged a flags) = a ∷ []
-
-abbrev pub is_actor_below : Actor → Actor → Bool
-is_actor_below a b = nat_lt a.node b.node || ((a.node == b.node) && nat_lt a.serial b.serial)
 
 -- puts an actor into a rising list, once
 abbrev pub insert_actor : Actor → List Actor → List Actor
