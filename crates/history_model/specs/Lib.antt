@@ -11,6 +11,7 @@ pub mod Sweeps
 pub mod Legal
 pub mod Quiescent
 pub mod Settled
+pub mod Reached
 pub mod Lines
 pub mod Report
 pub mod Limits
