@@ -1,0 +1,4 @@
+pub mod NumbersLemmas
+pub mod PutLemmas
+pub mod RowsLemmas
+pub mod SumsLemmas

@@ -1,0 +1,4 @@
+pub mod Admission
+pub mod Gate
+pub mod Numbered
+pub mod Sums

@@ -1,0 +1,11 @@
+-- Sets of numbers that come nearly in order.
+use Rattle.std.specs.Prelude.{◌==◌, ◌||◌, nat_lt, ℕ, Bool, List}
+use Rattle.std.specs.List.{list_any}
+
+-- a set of numbers: all below `run`, and those beyond
+pub record Numbered : Type 0 where
+  pub run : ℕ
+  pub beyond : List ℕ
+
+abbrev pub has_number : Numbered → ℕ → Bool
+has_number n k = nat_lt k n.run || list_any (λ x. k == x) n.beyond

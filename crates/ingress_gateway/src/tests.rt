@@ -1,0 +1,52 @@
+//! What one end of a link admits, counts and refuses.
+ghost use Rattle.std.specs.Prelude.{◌≡◌, [], false, IfOk};
+
+use crate::{Admit, Ingress};
+use crgc_ids::{ActorId, NodeId, PairCount};
+use std::alloc::Global;
+use std::test::Fail;
+
+fn actor(node: u8) -> Result<ActorId, Fail> {
+    let node = NodeId::new(node).ok_or("a node of 16 or above")?;
+    Ok(ActorId::new(node, 0).ok_or("a serial too large")?)
+}
+
+fn opened(alloc: Global) -> Result<Ingress, Fail>
+    ensures open { IfOk result (λ g. g.is_closed ≡ false) }
+    ensures messages { IfOk result (λ g. g.window.messages ≡ []) }
+    ensures carried { IfOk result (λ g. g.window.carried ≡ []) }
+{
+    let from = actor(1)?.node();
+    let at = actor(0)?.node();
+    if from == at {
+        return Err(Fail::new("one node"));
+    }
+    Ok(Ingress::new(alloc, from, at))
+}
+
+#[test]
+fn a_reference_carried_twice_counts_twice(rt: HostRuntime) -> Result<(), Fail> {
+    let owner = actor(0)?;
+    let target = actor(1)?;
+    let mut ingress = opened(rt.alloc())?;
+    let answer = ingress.admit(0, owner, [target, target].as_slice())?;
+    assert_eq!(rt; answer, Admit::Admitted);
+    let window = ingress.cut_window().ok_or("a window")?;
+    let count = 2;
+    let twice = PairCount {
+        owner,
+        target,
+        count,
+    };
+    assert_eq!(rt; window.carried.get(0), Some(&twice));
+    Ok(())
+}
+
+#[test]
+fn nothing_is_admitted_once_closed(rt: HostRuntime) -> Result<(), Fail> {
+    let to = actor(0)?;
+    let mut ingress = opened(rt.alloc())?;
+    assert_eq!(rt; ingress.close().messages.len(), 0);
+    assert_eq!(rt; ingress.admit(0, to, [to].as_slice())?, Admit::Closed);
+    Ok(())
+}

@@ -1,0 +1,3 @@
+pub mod LinksLemmas
+pub mod LostLemmas
+pub mod SetsLemmas

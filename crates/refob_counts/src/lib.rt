@@ -1,0 +1,89 @@
+//! The references that an actor holds: how many to each target.
+#![tactic(auto)]
+
+ghost use Rattle.std.specs.Prelude.{◌≡◌, ◌+◌, ◌-◌, ◌<◌, ◌^◌, [], OnOk, OnErr};
+ghost use Rattle.refob_counts.specs.Counts.{ChangesOnly, count_of};
+
+use crgc_ids::{ActorId, NoMemory};
+use std::alloc::Global;
+use std::collections::BTreeMap;
+use std::marker::Model;
+
+/// No reference to the target is held, so none can be released.
+#[derive(Clone, Copy, PartialEq, Eq, Debug)]
+pub struct NotHeld;
+
+/// How many references to each actor are held. It keeps its allocator. Contracts see the list of the targets and their
+/// counts, and read it by `count_of`.
+#[derive(Debug, Drop)]
+pub struct RefCounts {
+    counts: BTreeMap<ActorId, u32>,
+}
+
+impl Model for RefCounts {
+    ghost use Rattle.std.specs.Prelude.{ℕ, List};
+    ghost use Rattle.crgc_ids.specs.Actor.{Actor};
+
+    ghost Value = { List (Actor × ℕ) };
+
+    ghost view = { λ r. r.counts.entries };
+}
+
+impl RefCounts {
+    /// Nothing is held.
+    pub fn new(alloc: Global) -> RefCounts
+        ensures { result ≡ [] }
+    {
+        RefCounts {
+            counts: BTreeMap::new(alloc),
+        }
+    }
+
+    /// `count` references to the target are held more, and no other count changes. After `NoMemory` all is as before.
+    /// Logarithmic time in the number of targets.
+    pub fn add(&mut self, target: ActorId, count: u32) -> Result<(), NoMemory>
+        requires { count_of self.old target + count < 2 ^ 32 }
+        ensures ok { OnOk result (ChangesOnly self.old self.new target (count_of self.old target + count)) }
+        ensures err { OnErr result (self.new ≡ self.old) }
+    {
+        let held = self.held(target);
+        match self.counts.insert(target, held + count) {
+            Ok(_) => Ok(()),
+            Err(_) => Err(NoMemory),
+        }
+    }
+
+    /// One reference to the target is held less, and no other count changes. `NotHeld` exactly where none is held; then
+    /// all is as before. Logarithmic time in the number of targets.
+    pub fn release(&mut self, target: ActorId) -> Result<(), NotHeld>
+        ensures ok { OnOk result (ChangesOnly self.old self.new target (count_of self.old target - 1)) }
+        ensures held { OnOk result (0 < count_of self.old target) }
+        ensures err { OnErr result (self.new ≡ self.old) }
+        ensures not_held { OnErr result (count_of self.old target ≡ 0) }
+    {
+        match self.held(target) {
+            0 => return Err(NotHeld),
+            1 => {
+                self.counts.remove(&target);
+            }
+            held => {
+                // the target has an entry, so this takes no memory
+                let _ = self.counts.insert(target, held - 1);
+            }
+        }
+        Ok(())
+    }
+
+    /// How many references to the target are held. Logarithmic time in the number of targets.
+    pub fn held(&self, target: ActorId) -> u32
+        ensures { result ≡ count_of self.now target }
+    {
+        match self.counts.get(&target) {
+            Some(count) => *count,
+            None => 0,
+        }
+    }
+}
+
+#[cfg(test)]
+mod tests;
