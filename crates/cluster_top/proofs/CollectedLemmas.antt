@@ -1,6 +1,5 @@
 -- Every legal history is rightly collected, by the laws of the collector.
-use Rattle.std.proofs.Common.{◌≡◌, List, [], ◌∷◌, ◌++◌, ℕ, subst}
-use Rattle.crgc_ids.specs.Actor.{Actor}
+use Rattle.std.proofs.Common.{List, [], ◌∷◌, subst}
 use Rattle.history_model.specs.declared.events.Event.{Event}
 use Rattle.history_model.specs.declared.events.Event.TheVariants.{Sweep}
 use Rattle.history_model.specs.Cluster.{Cluster}
@@ -16,5 +15,5 @@ legal-rightly_collected cl h legal = record {
       quiescent-stays cl q p a longer (stopped-quiescent cl p a (legal-before cl later p (subst (IsLegal cl) is legal)) stopped);
   none_is_left = λ later p m is quiet a on_m quiescent.
       let swept = legal-before cl later (Sweep m ∷ p) (subst (IsLegal cl) is legal) in
-      (quiet-stopped cl m p a swept quiet on_m).1 (quiescent-stays cl (Sweep m ∷ []) p a swept quiescent)
+      (quiet-stopped cl m p a swept quiet on_m).1 (quiescent-stays cl (Sweep m ∷ []) p a swept quiescent);
 }

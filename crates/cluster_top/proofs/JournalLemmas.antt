@@ -1,10 +1,10 @@
 -- One event at most is spelled by a line, so a journal has no other history.
-use Rattle.std.proofs.Common.{◌≡◌, List, [], ◌∷◌, ◌++◌, ◌≤◌, refl, sym, ◌∙◌, ap, subst, Bool, true, false, ℕ, map, reverse, append_assoc, inl, inr, arith, length, get_or}
+use Rattle.std.proofs.Common.{◌≡◌, List, [], ◌∷◌, ◌++◌, ◌≤◌, refl, sym, ◌∙◌, ap, subst, true, false, ℕ, map, reverse, append_assoc, inl, inr, arith, length, get_or}
 use Rattle.std.proofs.lemmas.Bool.{cases_lt}
 use Rattle.std.proofs.lemmas.List.{map-append, append-nil, reverse-append, reverse-reverse}
 use Rattle.std.specs.Fmt.{digits}
 use Rattle.std.specs.Prelude.{◌⊎◌}
-use Rattle.std.specs.Prelude.{Option, Some, None, is_some}
+use Rattle.std.specs.Prelude.{Option, None, is_some}
 use Rattle.history_model.specs.declared.events.Event.{Event}
 use Rattle.history_model.specs.declared.events.Rule.{Rule}
 use Rattle.crgc_ids.specs.declared.Which.{Which}

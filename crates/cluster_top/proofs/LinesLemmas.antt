@@ -1,7 +1,7 @@
 -- The lines of a text begin with the piece before the first line feed.
-use Rattle.std.proofs.Common.{◌≡◌, ◌<◌, ◌≤◌, ◌+◌, ◌-◌, ℕ, Bool, true, false, List, [], ◌∷◌, ◌++◌, length, take, drop, eqb, refl, sym, ◌∙◌, ap, subst, arith, cond}
-use Rattle.std.specs.Prelude.{Option, Some, None, position, nat_lt, ◌==◌}
-use Rattle.std.specs.List.{slice_split, onto_first, position_or_len, All}
+use Rattle.std.proofs.Common.{◌≡◌, ◌<◌, ◌≤◌, ◌+◌, ℕ, Bool, true, false, List, [], ◌∷◌, length, take, drop, refl, ◌∙◌, ap, subst, arith, cond}
+use Rattle.std.specs.Prelude.{Some, None, position, nat_lt, ◌==◌}
+use Rattle.std.specs.List.{slice_split, onto_first, position_or_len}
 use Rattle.std.proofs.lemmas.List.Splits.{slice_split_none, slice_split_first}
 use Rattle.std.proofs.lemmas.List.Quantifiers.{position-Some}
 use Rattle.std.proofs.lemmas.List.Sums.{fails_before_first, position_or_len_is}

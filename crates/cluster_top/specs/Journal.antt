@@ -1,5 +1,5 @@
 -- Journals: the texts that `play` accepts, on one node and with nine forms of events for now.
-use Rattle.std.specs.Prelude.{ℕ, ◌≡◌, ◌≤◌, ◌∷◌, [], ◌++◌, List, None, length, map, reverse}
+use Rattle.std.specs.Prelude.{ℕ, ◌≡◌, ◌≤◌, ◌∷◌, [], List, None, length, map, reverse}
 use Rattle.history_model.specs.declared.events.Event.{Event}
 use Rattle.history_model.specs.Cluster.{Cluster}
 use Rattle.history_model.specs.Legal.{refusal, IsLegal}

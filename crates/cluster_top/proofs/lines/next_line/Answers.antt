@@ -1,6 +1,5 @@
-use Rattle.std.proofs.Common.{◌≡◌, ◌<◌, ◌+◌, ◌∷◌, length, drop, ap, sym, ◌∙◌, arith}
+use Rattle.std.proofs.Common.{◌<◌, length, sym, ◌∙◌, arith}
 use Rattle.std.proofs.lemmas.List.{take_rest, drop_all}
-use Rattle.history_model.specs.Lines.{lines_of}
 use Rattle.cluster_top.proofs.LinesLemmas.{lines_of-first, lines_of-one}
 use Rattle.cluster_top.proofs.lines.next_line.Goals as goal
 

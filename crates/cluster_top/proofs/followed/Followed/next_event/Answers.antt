@@ -1,4 +1,4 @@
-use Rattle.std.proofs.Common.{◌≡◌, Err, sym, ◌∙◌}
+use Rattle.std.proofs.Common.{sym, ◌∙◌}
 use Rattle.cluster_top.proofs.JournalLemmas.{next-refused, next-limited}
 use Rattle.cluster_top.proofs.followed.Followed.next_event.Goals as goal
 
