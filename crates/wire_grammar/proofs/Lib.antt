@@ -1,1 +1,4 @@
 mod Examples
+pub mod Readers
+pub mod Tables
+pub mod Rows

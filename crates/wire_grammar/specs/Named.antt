@@ -1,5 +1,5 @@
 -- The actors that a bulletin names, and the table of them.
-use Rattle.std.specs.Prelude.{ℕ, zero, suc, Bool, ◌||◌, List, [], ◌∷◌, ◌++◌, length, map, nat_lt, if◌then◌else◌}
+use Rattle.std.specs.Prelude.{ℕ, zero, suc, Bool, ◌||◌, List, [], ◌∷◌, ◌++◌, length, nat_lt, if◌then◌else◌}
 use Rattle.std.specs.List.{flat_map}
 use Rattle.crgc_ids.specs.Actor.{Actor, is_actor_below, same_actor}
 use Rattle.crgc_ids.specs.declared.rising.ActorCount.{ActorCount}
@@ -11,10 +11,10 @@ use Rattle.history_model.specs.declared.records.StateRow.{StateRow}
 use Rattle.history_model.specs.declared.records.Window.{Window}
 
 abbrev pub state_names : List StateRow → List Actor
-state_names rows = map (λ r. r.actor) rows
+state_names rows = flat_map (λ r. r.actor ∷ []) rows
 
 abbrev pub count_names : List ActorCount → List Actor
-count_names rows = map (λ r. r.actor) rows
+count_names rows = flat_map (λ r. r.actor ∷ []) rows
 
 abbrev pub pair_names : List PairCount → List Actor
 pair_names rows = flat_map (λ r. r.owner ∷ r.target ∷ []) rows
