@@ -150,3 +150,91 @@ names-formed wide names h e = record {
   actors = all-from_each IsActor (table_of names) (λ x m. h x (table_of-only x names m));
   form = e;
 }
+
+-- ---- a Delta
+
+delta-actors : (d : Delta) → IsDelta d → Each IsActor (delta_names d)
+delta-actors d h =
+    each-both IsActor (state_names d.states) (count_names d.sent ++ (pair_names d.created ++ pair_names d.released))
+    (rows-actors state_name StateAbove IsStateRow StateFits state-actors state-found state-named state-fitting d.states h.states)
+    (each-both IsActor (count_names d.sent) (pair_names d.created ++ pair_names d.released)
+    (rows-actors count_name CountAbove IsActorCount CountFits count-actors count-found count-named count-fitting d.sent h.sent)
+    (each-both IsActor (pair_names d.created) (pair_names d.released)
+    (rows-actors pair_name PairAbove IsPairCount PairFits pair-actors pair-found pair-named pair-fitting d.created h.created)
+    (rows-actors pair_name PairAbove IsPairCount PairFits pair-actors pair-found pair-named pair-fitting d.released h.released)))
+
+abbrev delta_over : Bool → Delta → List ℕ
+delta_over wide d = delta_text wide (table_of (delta_names d)) d
+
+delta-takes : (wide : Bool) (p q : Place) (d : Delta) → IsBytes p.rest → delta_at wide p ≡ Ok (d, q) → (IsDelta d × (is_wide (table_of (delta_names d)) ≡ wide)) × Moves p (delta_over wide d) q
+unfolding delta_at delta_text
+delta-takes wide p q d fits e =
+    let n = bind_ok (node_at p) _ (d, q) e in
+    let t = bind_ok (table_at wide n.0.1) _ (d, q) n.2 in
+    let a = bind_ok (states_at wide t.0.0 t.0.1) _ (d, q) t.2 in
+    let b = bind_ok (counts_at wide t.0.0 a.0.1) _ (d, q) a.2 in
+    let c = bind_ok (pairs_at wide t.0.0 b.0.1) _ (d, q) b.2 in
+    let r = bind_ok (pairs_at wide t.0.0 c.0.1) _ (d, q) c.2 in
+    let found : Delta = record { node = n.0.0; states = a.0.0; sent = b.0.0; created = c.0.0; released = r.0.0 } in
+    let named = all_named-ok (delta_names found) (n.0.1.offset + index_len wide) t.0.0 (found, r.0.1) (d, q) r.2 in
+    let n-takes = node-reader.takes p n.0.1 n.0.0 fits n.1 in
+    let n-bytes = Moves-bytes p n.0.1 (big_bytes 1 n.0.0) n-takes.1 fits in
+    let t-takes = (table wide).takes n.0.1 t.0.1 t.0.0 n-bytes t.1 in
+    let t-bytes = Moves-bytes n.0.1 t.0.1 (table_text wide t.0.0) t-takes.1 n-bytes in
+    let a-takes = (states wide t.0.0 t-takes.0).takes t.0.1 a.0.1 a.0.0 t-bytes a.1 in
+    let a-bytes = Moves-bytes t.0.1 a.0.1 (states_text wide t.0.0 a.0.0) a-takes.1 t-bytes in
+    let b-takes = (counts wide t.0.0 t-takes.0).takes a.0.1 b.0.1 b.0.0 a-bytes b.1 in
+    let b-bytes = Moves-bytes a.0.1 b.0.1 (counts_text wide t.0.0 b.0.0) b-takes.1 a-bytes in
+    let c-takes = (pairs wide t.0.0 t-takes.0).takes b.0.1 c.0.1 c.0.0 b-bytes c.1 in
+    let c-bytes = Moves-bytes b.0.1 c.0.1 (pairs_text wide t.0.0 c.0.0) c-takes.1 b-bytes in
+    let r-takes = (pairs wide t.0.0 t-takes.0).takes c.0.1 r.0.1 r.0.0 c-bytes r.1 in
+    let all : IsPart (delta_names found) t.0.0 =
+    each-both (λ x. IsAmong x t.0.0) (state_names a.0.0) (count_names b.0.0 ++ (pair_names c.0.0 ++ pair_names r.0.0)) a-takes.0.1
+    (each-both (λ x. IsAmong x t.0.0) (count_names b.0.0) (pair_names c.0.0 ++ pair_names r.0.0) b-takes.0.1
+    (each-both (λ x. IsAmong x t.0.0) (pair_names c.0.0) (pair_names r.0.0) c-takes.0.1 r-takes.0.1)) in
+    let same : table_of (delta_names found) ≡ t.0.0 = table_is t.0.0 (delta_names found) t-takes.0.rises named.0 all in
+    let cr = Moves-then b.0.1 c.0.1 r.0.1 (pairs_text wide t.0.0 c.0.0) (pairs_text wide t.0.0 r.0.0) c-takes.1 r-takes.1 in
+    let br = Moves-then a.0.1 b.0.1 r.0.1 (counts_text wide t.0.0 b.0.0) _ b-takes.1 cr in
+    let ar = Moves-then t.0.1 a.0.1 r.0.1 (states_text wide t.0.0 a.0.0) _ a-takes.1 br in
+    let tr = Moves-then n.0.1 t.0.1 r.0.1 (table_text wide t.0.0) _ t-takes.1 ar in
+    let nr : Moves p (delta_text wide t.0.0 found) r.0.1 = Moves-then p n.0.1 r.0.1 (big_bytes 1 n.0.0) _ n-takes.1 tr in
+    let whole : Moves p (delta_over wide found) r.0.1 = subst (λ x. Moves p (delta_text wide x found) r.0.1) (sym same) nr in
+    let is : IsDelta found = record { node = n-takes.0; states = a-takes.0.0; sent = b-takes.0.0; created = c-takes.0.0; released = r-takes.0.0 } in
+    subst (λ (y : Delta × Place). (IsDelta y.0 × (is_wide (table_of (delta_names y.0)) ≡ wide)) × Moves p (delta_over wide y.0) y.1) named.1
+    ((is, ap is_wide same ∙ t-takes.0.form), whole)
+
+delta-again : (wide : Bool) (p q : Place) (d : Delta) → IsDelta d × (is_wide (table_of (delta_names d)) ≡ wide) → Moves p (delta_over wide d) q → delta_at wide p ≡ Ok (d, q)
+unfolding delta_at delta_text
+delta-again wide p q d h m =
+    let t = table_of (delta_names d) in
+    let f : IsFormed wide t = names-formed wide (delta_names d) (delta-actors d h.0) h.1 in
+    let all : IsPart (delta_names d) t = λ x k. table_of-has x (delta_names d) k in
+    let In : Actor → Type 0 = λ x. IsAmong x t in
+    let after_states = each-right In (state_names d.states) (count_names d.sent ++ (pair_names d.created ++ pair_names d.released)) all in
+    let after_sent = each-right In (count_names d.sent) (pair_names d.created ++ pair_names d.released) after_states in
+    let r-text = pairs_text wide t d.released in
+    let c-text = pairs_text wide t d.created ++ r-text in
+    let b-text = counts_text wide t d.sent ++ c-text in
+    let a-text = states_text wide t d.states ++ b-text in
+    let t-text = table_text wide t ++ a-text in
+    let n1 = between p (big_bytes 1 d.node) t-text q in
+    let n-reads = node-reader.again p n1 d.node h.0.node (Moves-first p q (big_bytes 1 d.node) t-text m) in
+    let m1 = Moves-second p q (big_bytes 1 d.node) t-text m in
+    let t1 = between n1 (table_text wide t) a-text q in
+    let t-reads = (table wide).again n1 t1 t f (Moves-first n1 q (table_text wide t) a-text m1) in
+    let m2 = Moves-second n1 q (table_text wide t) a-text m1 in
+    let a1 = between t1 (states_text wide t d.states) b-text q in
+    let a-reads = (states wide t f).again t1 a1 d.states (h.0.states, each-left In (state_names d.states) (count_names d.sent ++ (pair_names d.created ++ pair_names d.released)) all) (Moves-first t1 q (states_text wide t d.states) b-text m2) in
+    let m3 = Moves-second t1 q (states_text wide t d.states) b-text m2 in
+    let b1 = between a1 (counts_text wide t d.sent) c-text q in
+    let b-reads = (counts wide t f).again a1 b1 d.sent (h.0.sent, each-left In (count_names d.sent) (pair_names d.created ++ pair_names d.released) after_states) (Moves-first a1 q (counts_text wide t d.sent) c-text m3) in
+    let m4 = Moves-second a1 q (counts_text wide t d.sent) c-text m3 in
+    let c1 = between b1 (pairs_text wide t d.created) r-text q in
+    let c-reads = (pairs wide t f).again b1 c1 d.created (h.0.created, each-left In (pair_names d.created) (pair_names d.released) after_sent) (Moves-first b1 q (pairs_text wide t d.created) r-text m4) in
+    let m5 = Moves-second b1 q (pairs_text wide t d.created) r-text m4 in
+    let r-reads = (pairs wide t f).again c1 q d.released (h.0.released, each-right In (pair_names d.created) (pair_names d.released) after_sent) m5 in
+    let named = all_named-again (delta_names d) (n1.offset + index_len wide) t (d, q) (λ x k. table_of-only x (delta_names d) k) in
+    rw (n-reads, t-reads, a-reads, b-reads, c-reads, r-reads) named
+
+delta : (wide : Bool) → IsReader (delta_over wide) (delta_at wide) (λ d. IsDelta d × (is_wide (table_of (delta_names d)) ≡ wide))
+delta wide = record { takes = delta-takes wide; again = delta-again wide }
