@@ -22,10 +22,10 @@ delta =
       states = record { actor = actor 0 0; received = 0; busy = false; root = true } ∷ record { actor = actor 0 1; received = 0; busy = false; root = false } ∷ [];
       sent = [];
       created =
-        record { owner = actor 0 0; target = actor 0 0; count = 1 }
-        ∷ record { owner = actor 0 0; target = actor 0 1; count = 1 }
-        ∷ record { owner = actor 0 1; target = actor 0 1; count = 1 }
-        ∷ [];
+          record { owner = actor 0 0; target = actor 0 0; count = 1 }
+          ∷ record { owner = actor 0 0; target = actor 0 1; count = 1 }
+          ∷ record { owner = actor 0 1; target = actor 0 1; count = 1 }
+          ∷ [];
       released = record { owner = actor 0 0; target = actor 0 1; count = 1 } ∷ [];
     })
 
@@ -115,4 +115,3 @@ narrow = refl
 link_to_itself : Reads (67 ∷ 82 ∷ 71 ∷ 49 ∷ 3 ∷ 1 ∷ 1 ∷ 0 ∷ 1 ∷ 1 ∷ 0 ∷ 0 ∷ 0 ∷ 1 ∷ 0 ∷ 1 ∷ 0 ∷ 0 ∷ 0 ∷ 0 ∷ 0 ∷ 1 ∷ 0 ∷ 0 ∷ 0 ∷ 0 ∷ []) (fault Node 6)
 unfolding reading bulletin_at delta_at window_at table_at rows_at states_at counts_at pairs_at state_row count_row pair_row index_at all_named
 link_to_itself = refl
-

@@ -53,33 +53,33 @@ module _ {X : Type 0} (names : X → List Actor) where
   all_both P Q R f (x ∷ xs) h k = (f x h.0 k.0, all_both P Q R f xs h.1 k.1)
 
   module _ (Above : X → X → Type 0) (IsRow : X → Type 0) (Fits : List Actor → X → Type 0)
-    (actors : (r : X) → IsRow r → Each IsActor (names r))
-    (found : (table : List Actor) → AllByRecursion IsActor table → (r : X) → Fits table r → IsRow r)
-    (named : (table : List Actor) (r : X) → Fits table r → IsPart (names r) table)
-    (fitting : (table : List Actor) (r : X) → IsRow r → IsPart (names r) table → Fits table r)
-   where
-    -- rows that fit a table of actors are rows
-    pub rows-found : (table : List Actor) (IsLen : ℕ → Type 0) (xs : List X) → AllByRecursion IsActor table → ((n : ℕ) → IsLen n → n < 2 ^ 32) → AreFitting Above (Fits table) IsLen xs → AreRows Above IsRow xs
-    rows-found table IsLen xs all short h = record {
-      rise = h.rise;
-      stand = all_like (Fits table) IsRow (found table all) xs h.fit;
-      fit = short (length xs) h.len;
-    }
+      (actors : (r : X) → IsRow r → Each IsActor (names r))
+      (found : (table : List Actor) → AllByRecursion IsActor table → (r : X) → Fits table r → IsRow r)
+      (named : (table : List Actor) (r : X) → Fits table r → IsPart (names r) table)
+      (fitting : (table : List Actor) (r : X) → IsRow r → IsPart (names r) table → Fits table r)
+    where
+      -- rows that fit a table of actors are rows
+      pub rows-found : (table : List Actor) (IsLen : ℕ → Type 0) (xs : List X) → AllByRecursion IsActor table → ((n : ℕ) → IsLen n → n < 2 ^ 32) → AreFitting Above (Fits table) IsLen xs → AreRows Above IsRow xs
+      rows-found table IsLen xs all short h = record {
+        rise = h.rise;
+        stand = all_like (Fits table) IsRow (found table all) xs h.fit;
+        fit = short (length xs) h.len;
+      }
 
-    -- rows that fit a table name its actors
-    pub rows-named : (table : List Actor) (IsLen : ℕ → Type 0) (xs : List X) → AreFitting Above (Fits table) IsLen xs → IsPart (flat_map names xs) table
-    rows-named table IsLen xs h = each-names (λ x. IsAmong x table) xs (all_like (Fits table) (λ r. IsPart (names r) table) (named table) xs h.fit)
+      -- rows that fit a table name its actors
+      pub rows-named : (table : List Actor) (IsLen : ℕ → Type 0) (xs : List X) → AreFitting Above (Fits table) IsLen xs → IsPart (flat_map names xs) table
+      rows-named table IsLen xs h = each-names (λ x. IsAmong x table) xs (all_like (Fits table) (λ r. IsPart (names r) table) (named table) xs h.fit)
 
-    -- rows whose names the table has fit it
-    pub rows-fit : (table : List Actor) (IsLen : ℕ → Type 0) (xs : List X) → AreRows Above IsRow xs → IsPart (flat_map names xs) table → IsLen (length xs) → AreFitting Above (Fits table) IsLen xs
-    rows-fit table IsLen xs h part len = record {
-      rise = h.rise;
-      fit = all_both IsRow (λ r. IsPart (names r) table) (Fits table) (fitting table) xs h.stand (names-each (λ x. IsAmong x table) xs part);
-      len = len;
-    }
+      -- rows whose names the table has fit it
+      pub rows-fit : (table : List Actor) (IsLen : ℕ → Type 0) (xs : List X) → AreRows Above IsRow xs → IsPart (flat_map names xs) table → IsLen (length xs) → AreFitting Above (Fits table) IsLen xs
+      rows-fit table IsLen xs h part len = record {
+        rise = h.rise;
+        fit = all_both IsRow (λ r. IsPart (names r) table) (Fits table) (fitting table) xs h.stand (names-each (λ x. IsAmong x table) xs part);
+        len = len;
+      }
 
-    pub rows-actors : (xs : List X) → AreRows Above IsRow xs → Each IsActor (flat_map names xs)
-    rows-actors xs h = each-names IsActor xs (all_like IsRow (λ r. Each IsActor (names r)) actors xs h.stand)
+      pub rows-actors : (xs : List X) → AreRows Above IsRow xs → Each IsActor (flat_map names xs)
+      rows-actors xs h = each-names IsActor xs (all_like IsRow (λ r. Each IsActor (names r)) actors xs h.stand)
 
 -- rows that rise by their actor are not more than the actors of a table that has them
 module _ {X : Type 0} (actor : X → Actor) where
@@ -153,7 +153,7 @@ all_named-ok {X = X} names offset (a ∷ table) x y e =
     let P : Bool → Type 0 = λ v. list_any (same_actor a) names ≡ v → cond v (all_named names (offset + 5) table x) (fault {X = X} Unused offset) ≡ Ok y → IsPart (a ∷ table) names × (x ≡ y) in
     let cases : P (list_any (same_actor a) names) = elim (list_any (same_actor a) names) as P [
       | true ↦ (λ t f. let rest = all_named-ok names (offset + 5) table x y f in
-        ((λ z m. elim m [ inl k ↦ subst (λ w. IsAmong w names) (sym k) (among names a t) | inr k ↦ rest.0 z k ]), rest.1))
+          ((λ z m. elim m [ inl k ↦ subst (λ w. IsAmong w names) (sym k) (among names a t) | inr k ↦ rest.0 z k ]), rest.1))
       | false ↦ (λ t f. absurd cc)
     ] in
     cases refl e

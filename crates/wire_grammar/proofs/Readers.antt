@@ -83,22 +83,22 @@ number_is short offset m n r q e f g = rw (e, f, g) refl
 pub number-reader : (k : ℕ) → IsReader (big_bytes k) (number_at k) (λ n. n < 256 ^ k)
 number-reader k = record {
   takes = λ p q n fits e.
-    let g = guard_not (ltb (length p.rest) k) (record { kind = Short; offset = p.offset }) (big_number k p.rest, after k p) (n, q) e in
-    let long : k ≤ length p.rest = ltb-false _ _ g.0 in
-    let front = take k p.rest in
-    let len : length front ≡ k = omega (arith, length-take k p.rest) in
-    let whole : front ++ drop k p.rest ≡ p.rest = take-append-drop k p.rest in
-    let bytes : big_bytes k (big_number k p.rest) ≡ front = ap (λ xs. big_bytes k (big_number k xs)) (sym whole) ∙ big_bytes-big_number k front (drop k p.rest) len (IsBytes-take k p.rest fits) in
-    let parts : p.rest ≡ big_bytes k (big_number k p.rest) ++ drop k p.rest = sym whole ∙ ap (λ xs. xs ++ drop k p.rest) (sym bytes) in
-    let count : p.offset + k ≡ p.offset + length (big_bytes k (big_number k p.rest)) = omega (arith, length-bytes_high_first k (big_number k p.rest)) in
-    subst (λ (y : ℕ × Place). (y.0 < 256 ^ k) × Moves p (big_bytes k y.0) y.1) g.1
-    (big_from-lt 0 k p.rest fits, record { parts = parts; count = count });
+      let g = guard_not (ltb (length p.rest) k) (record { kind = Short; offset = p.offset }) (big_number k p.rest, after k p) (n, q) e in
+      let long : k ≤ length p.rest = ltb-false _ _ g.0 in
+      let front = take k p.rest in
+      let len : length front ≡ k = omega (arith, length-take k p.rest) in
+      let whole : front ++ drop k p.rest ≡ p.rest = take-append-drop k p.rest in
+      let bytes : big_bytes k (big_number k p.rest) ≡ front = ap (λ xs. big_bytes k (big_number k xs)) (sym whole) ∙ big_bytes-big_number k front (drop k p.rest) len (IsBytes-take k p.rest fits) in
+      let parts : p.rest ≡ big_bytes k (big_number k p.rest) ++ drop k p.rest = sym whole ∙ ap (λ xs. xs ++ drop k p.rest) (sym bytes) in
+      let count : p.offset + k ≡ p.offset + length (big_bytes k (big_number k p.rest)) = omega (arith, length-bytes_high_first k (big_number k p.rest)) in
+      subst (λ (y : ℕ × Place). (y.0 < 256 ^ k) × Moves p (big_bytes k y.0) y.1) g.1
+      (big_from-lt 0 k p.rest fits, record { parts = parts; count = count });
   again = λ p q n lt m.
-    let len = length-bytes_high_first k n in
-    let long : ltb (length p.rest) k ≡ false = le-ltb _ _ (omega (arith, ap length m.parts, length-append (big_bytes k n) q.rest)) in
-    let number : big_number k p.rest ≡ n = ap (big_number k) m.parts ∙ big_number-reads_back k n q.rest lt in
-    let place : after k p ≡ q = same_place (after k p) q (omega (arith, m.count)) (ap (drop k) m.parts ∙ drop_at (big_bytes k n) q.rest k len) in
-    number_is (ltb (length p.rest) k) p.offset (big_number k p.rest) n (after k p) q long number place;
+      let len = length-bytes_high_first k n in
+      let long : ltb (length p.rest) k ≡ false = le-ltb _ _ (omega (arith, ap length m.parts, length-append (big_bytes k n) q.rest)) in
+      let number : big_number k p.rest ≡ n = ap (big_number k) m.parts ∙ big_number-reads_back k n q.rest lt in
+      let place : after k p ≡ q = same_place (after k p) q (omega (arith, m.count)) (ap (drop k) m.parts ∙ drop_at (big_bytes k n) q.rest k len) in
+      number_is (ltb (length p.rest) k) p.offset (big_number k p.rest) n (after k p) q long number place;
 }
 
 -- a value that passes a test
@@ -106,10 +106,10 @@ pub checked-reader : {X : Type 0} {text : X → List ℕ} {read : Reader X} {Fit
     → IsReader text read Fits → IsReader text (checked kind test read) (λ x. Fits x × (test x ≡ true))
 checked-reader {X} {text} {read} {Fits} kind test r = record {
   takes = λ p q x fits e.
-    let a = bind_ok (read p) (λ y. cond (test y.0) (Ok y) (fault kind p.offset)) (x, q) e in
-    let g = guard_ok (test a.0.0) (record { kind = kind; offset = p.offset }) a.0 (x, q) a.2 in
-    let t = r.takes p a.0.1 a.0.0 fits a.1 in
-    subst (λ (y : X × Place). (Fits y.0 × (test y.0 ≡ true)) × Moves p (text y.0) y.1) g.1 ((t.0, g.0), t.1);
+      let a = bind_ok (read p) (λ y. cond (test y.0) (Ok y) (fault kind p.offset)) (x, q) e in
+      let g = guard_ok (test a.0.0) (record { kind = kind; offset = p.offset }) a.0 (x, q) a.2 in
+      let t = r.takes p a.0.1 a.0.0 fits a.1 in
+      subst (λ (y : X × Place). (Fits y.0 × (test y.0 ≡ true)) × Moves p (text y.0) y.1) g.1 ((t.0, g.0), t.1);
   again = λ p q x h m. rw (r.again p q x h.0 m, h.1) refl;
 }
 
@@ -119,17 +119,17 @@ pub both-reader : {X Y : Type 0} {text : X → List ℕ} {text2 : X → Y → Li
     → IsReader (λ z. text z.0 ++ text2 z.0 z.1) (both read read2) (λ z. Fits z.0 × Fits2 z.0 z.1)
 both-reader {X} {Y} {text} {text2} {read} {read2} {Fits} {Fits2} r s = record {
   takes = λ p q z fits e.
-    let a = bind_ok (read p) (λ x. read2 x.0 x.1 >>= λ y. Ok ((x.0, y.0), y.1)) (z, q) e in
-    let b = bind_ok (read2 a.0.0 a.0.1) (λ y. Ok ((a.0.0, y.0), y.1)) (z, q) a.2 in
-    let t = r.takes p a.0.1 a.0.0 fits a.1 in
-    let u = (s a.0.0 t.0).takes a.0.1 b.0.1 b.0.0 (Moves-bytes p a.0.1 (text a.0.0) t.1 fits) b.1 in
-    subst (λ (y : (X × Y) × Place). (Fits y.0.0 × Fits2 y.0.0 y.0.1) × Moves p (text y.0.0 ++ text2 y.0.0 y.0.1) y.1)
-    (ok_is ((a.0.0, b.0.0), b.0.1) (z, q) b.2)
-    ((t.0, u.0), Moves-then p a.0.1 b.0.1 (text a.0.0) (text2 a.0.0 b.0.0) t.1 u.1);
+      let a = bind_ok (read p) (λ x. read2 x.0 x.1 >>= λ y. Ok ((x.0, y.0), y.1)) (z, q) e in
+      let b = bind_ok (read2 a.0.0 a.0.1) (λ y. Ok ((a.0.0, y.0), y.1)) (z, q) a.2 in
+      let t = r.takes p a.0.1 a.0.0 fits a.1 in
+      let u = (s a.0.0 t.0).takes a.0.1 b.0.1 b.0.0 (Moves-bytes p a.0.1 (text a.0.0) t.1 fits) b.1 in
+      subst (λ (y : (X × Y) × Place). (Fits y.0.0 × Fits2 y.0.0 y.0.1) × Moves p (text y.0.0 ++ text2 y.0.0 y.0.1) y.1)
+      (ok_is ((a.0.0, b.0.0), b.0.1) (z, q) b.2)
+      ((t.0, u.0), Moves-then p a.0.1 b.0.1 (text a.0.0) (text2 a.0.0 b.0.0) t.1 u.1);
   again = λ p q z h m.
-    let one = r.again p (between p (text z.0) (text2 z.0 z.1) q) z.0 h.0 (Moves-first p q (text z.0) (text2 z.0 z.1) m) in
-    let two = (s z.0 h.0).again (between p (text z.0) (text2 z.0 z.1) q) q z.1 h.1 (Moves-second p q (text z.0) (text2 z.0 z.1) m) in
-    rw (one, two) refl;
+      let one = r.again p (between p (text z.0) (text2 z.0 z.1) q) z.0 h.0 (Moves-first p q (text z.0) (text2 z.0 z.1) m) in
+      let two = (s z.0 h.0).again (between p (text z.0) (text2 z.0 z.1) q) q z.1 h.1 (Moves-second p q (text z.0) (text2 z.0 z.1) m) in
+      rw (one, two) refl;
 }
 
 -- a value made of another, from which that one follows
@@ -138,11 +138,11 @@ pub made-reader : {X Y : Type 0} {text : X → List ℕ} {read : Reader X} {Fits
     → IsReader text read Fits → IsReader (λ y. text (parts y)) (made make read) (λ y. Fits (parts y))
 made-reader {X} {Y} {text} {read} {Fits} make parts there back r = record {
   takes = λ p q y fits e.
-    let a = bind_ok (read p) (λ x. Ok (make x.0, x.1)) (y, q) e in
-    let t = r.takes p a.0.1 a.0.0 fits a.1 in
-    let same = there a.0.0 t.0 in
-    subst (λ (z : Y × Place). Fits (parts z.0) × Moves p (text (parts z.0)) z.1) (ok_is (make a.0.0, a.0.1) (y, q) a.2)
-    (subst Fits (sym same) t.0, subst (λ x. Moves p (text x) a.0.1) (sym same) t.1);
+      let a = bind_ok (read p) (λ x. Ok (make x.0, x.1)) (y, q) e in
+      let t = r.takes p a.0.1 a.0.0 fits a.1 in
+      let same = there a.0.0 t.0 in
+      subst (λ (z : Y × Place). Fits (parts z.0) × Moves p (text (parts z.0)) z.1) (ok_is (make a.0.0, a.0.1) (y, q) a.2)
+      (subst Fits (sym same) t.0, subst (λ x. Moves p (text x) a.0.1) (sym same) t.1);
   again = λ p q y h m. rw (r.again p q (parts y) h m) (ap (λ z. Ok (z, q)) (back y));
 }
 
@@ -153,47 +153,47 @@ AreChained key below Fits last (x ∷ xs) =
     (Fits x × (is_above below last (key x) ≡ true)) × AreChained key below Fits (Some (key x)) xs
 
 module _ {X K : Type 0} (key : X → K) (below : K → K → Bool) (text : X → List ℕ) (row : Option K → Reader X) (Fits : X → Type 0)
-  (each : (last : Option K) → IsReader text (row last) (λ x. Fits x × (is_above below last (key x) ≡ true)))
- where
-  -- rows, one after the other
-  pub rows_take : (n : ℕ) (last : Option K) (p q : Place) (xs : List X) → IsBytes p.rest → rows_at key row n last p ≡ Ok (xs, q)
-      → (AreChained key below Fits last xs × (length xs ≡ n)) × Moves p (flat_map text xs) q
-  unfolding rows_at
-  rows_take zero last p q xs fits e =
-      subst (λ (y : List X × Place). (AreChained key below Fits last y.0 × (length y.0 ≡ 0)) × Moves p (flat_map text y.0) y.1)
-      (ok_is ([], p) (xs, q) e) ((tt, refl), record { parts = refl; count = omega arith })
-  rows_take (suc n) last p q xs fits e =
-      let a = bind_ok (row last p) (λ x. rows_at key row n (Some (key x.0)) x.1 >>= λ ys. Ok (x.0 ∷ ys.0, ys.1)) (xs, q) e in
-      let b = bind_ok (rows_at key row n (Some (key a.0.0)) a.0.1) (λ ys. Ok (a.0.0 ∷ ys.0, ys.1)) (xs, q) a.2 in
-      let t = (each last).takes p a.0.1 a.0.0 fits a.1 in
-      let u = rows_take n (Some (key a.0.0)) a.0.1 b.0.1 b.0.0 (Moves-bytes p a.0.1 (text a.0.0) t.1 fits) b.1 in
-      subst (λ (y : List X × Place). (AreChained key below Fits last y.0 × (length y.0 ≡ suc n)) × Moves p (flat_map text y.0) y.1)
-      (ok_is (a.0.0 ∷ b.0.0, b.0.1) (xs, q) b.2)
-      (((t.0, u.0.0), ap suc u.0.1), rw flat_map-cons (Moves-then p a.0.1 b.0.1 (text a.0.0) (flat_map text b.0.0) t.1 u.1))
+    (each : (last : Option K) → IsReader text (row last) (λ x. Fits x × (is_above below last (key x) ≡ true)))
+  where
+    -- rows, one after the other
+    pub rows_take : (n : ℕ) (last : Option K) (p q : Place) (xs : List X) → IsBytes p.rest → rows_at key row n last p ≡ Ok (xs, q)
+        → (AreChained key below Fits last xs × (length xs ≡ n)) × Moves p (flat_map text xs) q
+    unfolding rows_at
+    rows_take zero last p q xs fits e =
+        subst (λ (y : List X × Place). (AreChained key below Fits last y.0 × (length y.0 ≡ 0)) × Moves p (flat_map text y.0) y.1)
+        (ok_is ([], p) (xs, q) e) ((tt, refl), record { parts = refl; count = omega arith })
+    rows_take (suc n) last p q xs fits e =
+        let a = bind_ok (row last p) (λ x. rows_at key row n (Some (key x.0)) x.1 >>= λ ys. Ok (x.0 ∷ ys.0, ys.1)) (xs, q) e in
+        let b = bind_ok (rows_at key row n (Some (key a.0.0)) a.0.1) (λ ys. Ok (a.0.0 ∷ ys.0, ys.1)) (xs, q) a.2 in
+        let t = (each last).takes p a.0.1 a.0.0 fits a.1 in
+        let u = rows_take n (Some (key a.0.0)) a.0.1 b.0.1 b.0.0 (Moves-bytes p a.0.1 (text a.0.0) t.1 fits) b.1 in
+        subst (λ (y : List X × Place). (AreChained key below Fits last y.0 × (length y.0 ≡ suc n)) × Moves p (flat_map text y.0) y.1)
+        (ok_is (a.0.0 ∷ b.0.0, b.0.1) (xs, q) b.2)
+        (((t.0, u.0.0), ap suc u.0.1), rw flat_map-cons (Moves-then p a.0.1 b.0.1 (text a.0.0) (flat_map text b.0.0) t.1 u.1))
 
-  pub rows_again : (last : Option K) (p q : Place) (xs : List X) → AreChained key below Fits last xs → Moves p (flat_map text xs) q
-      → rows_at key row (length xs) last p ≡ Ok (xs, q)
-  unfolding rows_at
-  rows_again last p q [] h m = ap (λ r. Ok ([], r)) (same_place p q (omega (arith, m.count)) m.parts)
-  rows_again last p q (x ∷ xs) h m =
-      let split : Moves p (text x ++ flat_map text xs) q = subst (λ t. Moves p t q) (flat_map-cons text x xs) m in
-      let one = (each last).again p (between p (text x) (flat_map text xs) q) x h.0 (Moves-first p q (text x) (flat_map text xs) split) in
-      let two = rows_again (Some (key x)) (between p (text x) (flat_map text xs) q) q xs h.1 (Moves-second p q (text x) (flat_map text xs) split) in
-      rw (one, two) refl
+    pub rows_again : (last : Option K) (p q : Place) (xs : List X) → AreChained key below Fits last xs → Moves p (flat_map text xs) q
+        → rows_at key row (length xs) last p ≡ Ok (xs, q)
+    unfolding rows_at
+    rows_again last p q [] h m = ap (λ r. Ok ([], r)) (same_place p q (omega (arith, m.count)) m.parts)
+    rows_again last p q (x ∷ xs) h m =
+        let split : Moves p (text x ++ flat_map text xs) q = subst (λ t. Moves p t q) (flat_map-cons text x xs) m in
+        let one = (each last).again p (between p (text x) (flat_map text xs) q) x h.0 (Moves-first p q (text x) (flat_map text xs) split) in
+        let two = rows_again (Some (key x)) (between p (text x) (flat_map text xs) q) q xs h.1 (Moves-second p q (text x) (flat_map text xs) split) in
+        rw (one, two) refl
 
-  -- the number of rows, and the rows
-  pub section-reader : (k : ℕ) (len_at : Reader ℕ) (IsLen : ℕ → Type 0) → IsReader (big_bytes k) len_at IsLen
-      → IsReader (section_text k text) (λ p. len_at p >>= λ n. rows_at key row n.0 None n.1)
-      (λ xs. AreChained key below Fits None xs × IsLen (length xs))
-  section-reader k len_at IsLen r = record {
-    takes = λ p q xs fits e.
-      let a = bind_ok (len_at p) (λ n. rows_at key row n.0 None n.1) (xs, q) e in
-      let t = r.takes p a.0.1 a.0.0 fits a.1 in
-      let u = rows_take a.0.0 None a.0.1 q xs (Moves-bytes p a.0.1 (big_bytes k a.0.0) t.1 fits) a.2 in
-      ((u.0.0, subst IsLen (sym u.0.1) t.0), Moves-then p a.0.1 q (big_bytes k (length xs)) (flat_map text xs) (subst (λ n. Moves p (big_bytes k n) a.0.1) (sym u.0.1) t.1) u.1);
-    again = λ p q xs h m.
-      let front = big_bytes k (length xs) in
-      let one = r.again p (between p front (flat_map text xs) q) (length xs) h.1 (Moves-first p q front (flat_map text xs) m) in
-      let two = rows_again None (between p front (flat_map text xs) q) q xs h.0 (Moves-second p q front (flat_map text xs) m) in
-      rw (one, two) refl;
-  }
+    -- the number of rows, and the rows
+    pub section-reader : (k : ℕ) (len_at : Reader ℕ) (IsLen : ℕ → Type 0) → IsReader (big_bytes k) len_at IsLen
+        → IsReader (section_text k text) (λ p. len_at p >>= λ n. rows_at key row n.0 None n.1)
+        (λ xs. AreChained key below Fits None xs × IsLen (length xs))
+    section-reader k len_at IsLen r = record {
+      takes = λ p q xs fits e.
+          let a = bind_ok (len_at p) (λ n. rows_at key row n.0 None n.1) (xs, q) e in
+          let t = r.takes p a.0.1 a.0.0 fits a.1 in
+          let u = rows_take a.0.0 None a.0.1 q xs (Moves-bytes p a.0.1 (big_bytes k a.0.0) t.1 fits) a.2 in
+          ((u.0.0, subst IsLen (sym u.0.1) t.0), Moves-then p a.0.1 q (big_bytes k (length xs)) (flat_map text xs) (subst (λ n. Moves p (big_bytes k n) a.0.1) (sym u.0.1) t.1) u.1);
+      again = λ p q xs h m.
+          let front = big_bytes k (length xs) in
+          let one = r.again p (between p front (flat_map text xs) q) (length xs) h.1 (Moves-first p q front (flat_map text xs) m) in
+          let two = rows_again None (between p front (flat_map text xs) q) q xs h.0 (Moves-second p q front (flat_map text xs) m) in
+          rw (one, two) refl;
+    }

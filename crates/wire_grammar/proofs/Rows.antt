@@ -72,17 +72,18 @@ module _ (wide : Bool) (table : List Actor) (rises : IsTable table) (short : len
   unfolding index_at
   index-reader = record {
     takes = λ p q a fits e.
-      let n = bind_ok (number_at (index_len wide) p) (λ n. actor_of p.offset (slice_get table n.0) n.1) (a, q) e in
-      let found = actor_ok (slice_get table n.0.0) p.offset n.0.1 q a n.2 in
-      let t = (number-reader (index_len wide)).takes p n.0.1 n.0.0 fits n.1 in
-      (slice_get-member table n.0.0 a found.0,
-      subst (λ (z : ℕ × Place). Moves p (big_bytes (index_len wide) z.0) z.1)
-      (λ i. (sym (index_of-slice_get table n.0.0 a rises found.0) i, found.1 i)) t.1);
+        let n = bind_ok (number_at (index_len wide) p) (λ n. actor_of p.offset (slice_get table n.0) n.1) (a, q) e in
+        let found = actor_ok (slice_get table n.0.0) p.offset n.0.1 q a n.2 in
+        let t = (number-reader (index_len wide)).takes p n.0.1 n.0.0 fits n.1 in (
+          slice_get-member table n.0.0 a found.0,
+          subst (λ (z : ℕ × Place). Moves p (big_bytes (index_len wide) z.0) z.1)
+              (λ i. (sym (index_of-slice_get table n.0.0 a rises found.0) i, found.1 i)) t.1,
+        );
     again = λ p q a h m.
-      let there = slice_get-index_of table a rises h in
-      let below = index_below table (index_of table a) a there in
-      let one = (number-reader (index_len wide)).again p q (index_of table a) (omega arith) m in
-      rw (one, there) refl;
+        let there = slice_get-index_of table a rises h in
+        let below = index_below table (index_of table a) a there in
+        let one = (number-reader (index_len wide)).again p q (index_of table a) (omega arith) m in
+        rw (one, there) refl;
   }
 
   key-reader : (last : Option Actor) → IsReader (index_text wide table) (key_at wide table last) (λ a. IsAmong a table × (is_above is_actor_below last a ≡ true))
@@ -125,30 +126,30 @@ all_like P Q f [] h = tt
 all_like P Q f (x ∷ xs) h = (f x h.0, all_like P Q f xs h.1)
 
 module _ {X K : Type 0} (key : X → K) (below : K → K → Bool) (Above : X → X → Type 0) (Fits : X → Type 0)
-  (up : (x y : X) → Decides (below (key x) (key y)) (Above x y))
-  (trans : (x y z : X) → Above x y → Above y z → Above x z)
- where
-  chain-above : (x : X) (xs : List X) → AreChained key below Fits (Some (key x)) xs → AllByRecursion (Above x) xs
-  chain-above x [] h = tt
-  chain-above x (y ∷ ys) h =
-      let first = (up x y).0 h.0.1 in
-      (first, all_like (Above y) (Above x) (λ z k. trans x y z first k) ys (chain-above y ys h.1))
+    (up : (x y : X) → Decides (below (key x) (key y)) (Above x y))
+    (trans : (x y z : X) → Above x y → Above y z → Above x z)
+  where
+    chain-above : (x : X) (xs : List X) → AreChained key below Fits (Some (key x)) xs → AllByRecursion (Above x) xs
+    chain-above x [] h = tt
+    chain-above x (y ∷ ys) h =
+        let first = (up x y).0 h.0.1 in
+        (first, all_like (Above y) (Above x) (λ z k. trans x y z first k) ys (chain-above y ys h.1))
 
-  -- chained rows rise, and each of them fits
-  pub chain-rises : (last : Option K) (xs : List X) → AreChained key below Fits last xs → IsRising Above xs × AllByRecursion Fits xs
-  chain-rises last [] h = (tt, tt)
-  chain-rises last (x ∷ xs) h =
-      let rest = chain-rises (Some (key x)) xs h.1 in
-      ((chain-above x xs h.1, rest.0), (h.0.0, rest.1))
+    -- chained rows rise, and each of them fits
+    pub chain-rises : (last : Option K) (xs : List X) → AreChained key below Fits last xs → IsRising Above xs × AllByRecursion Fits xs
+    chain-rises last [] h = (tt, tt)
+    chain-rises last (x ∷ xs) h =
+        let rest = chain-rises (Some (key x)) xs h.1 in
+        ((chain-above x xs h.1, rest.0), (h.0.0, rest.1))
 
-  chain-after : (x : X) (xs : List X) → AllByRecursion (Above x) xs → IsRising Above xs → AllByRecursion Fits xs → AreChained key below Fits (Some (key x)) xs
-  chain-after x [] a r f = tt
-  chain-after x (y ∷ ys) a r f = ((f.0, (up x y).1 a.0), chain-after y ys r.0 r.1 f.1)
+    chain-after : (x : X) (xs : List X) → AllByRecursion (Above x) xs → IsRising Above xs → AllByRecursion Fits xs → AreChained key below Fits (Some (key x)) xs
+    chain-after x [] a r f = tt
+    chain-after x (y ∷ ys) a r f = ((f.0, (up x y).1 a.0), chain-after y ys r.0 r.1 f.1)
 
-  -- rows that rise and fit are chained
-  pub rises-chain : (xs : List X) → IsRising Above xs → AllByRecursion Fits xs → AreChained key below Fits None xs
-  rises-chain [] r f = tt
-  rises-chain (x ∷ xs) r f = ((f.0, refl), chain-after x xs r.0 r.1 f.1)
+    -- rows that rise and fit are chained
+    pub rises-chain : (xs : List X) → IsRising Above xs → AllByRecursion Fits xs → AreChained key below Fits None xs
+    rises-chain [] r f = tt
+    rises-chain (x ∷ xs) r f = ((f.0, refl), chain-after x xs r.0 r.1 f.1)
 
 -- the rows of a section: they rise, each of them fits, and their number has k bytes
 pub record AreFitting {X : Type 0} (Above : X → X → Type 0) (Fits : X → Type 0) (IsLen : ℕ → Type 0) (rows : List X) : Type 0 where

@@ -73,10 +73,10 @@ with_actor-only x a (b ∷ rest) h =
       | inr other ↦ elim other [
         | inl e ↦ inr (subst In (put_nowhere a b rest e) h)
         | inr above ↦ (let later : IsAmong x (b ∷ with_actor a rest) = subst In (put_later a b rest above) h in
-          elim later [
-            | inl k ↦ inr (inl k)
-            | inr k ↦ elim (with_actor-only x a rest k) [ inl l ↦ inl l | inr l ↦ inr (inr l) ]
-          ])
+            elim later [
+              | inl k ↦ inr (inl k)
+              | inr k ↦ elim (with_actor-only x a rest k) [ inl l ↦ inl l | inr l ↦ inr (inr l) ]
+            ])
       ]
     ]
 
@@ -146,17 +146,17 @@ part_length (x ∷ xs) [] r s p = absurd (p x (inl refl))
 part_length (x ∷ xs) (y ∷ ys) r s p =
     elim (p x (inl refl)) [
       | inl e ↦ (let rest = part_length xs ys r.1 s.1 (λ z h. elim (p z (inr h)) [
-          | inl f ↦ absurd (not_below_itself x (subst (IsActorBelow x) (f ∙ sym e) (all-member (IsActorBelow x) z xs r.0 h)))
-          | inr k ↦ k
-        ]) in omega arith)
+        | inl f ↦ absurd (not_below_itself x (subst (IsActorBelow x) (f ∙ sym e) (all-member (IsActorBelow x) z xs r.0 h)))
+        | inr k ↦ k
+      ]) in omega arith)
       | inr h ↦ (let below = all-member (IsActorBelow y) x ys s.0 h in
-        let rest = part_length (x ∷ xs) ys r s.1 (λ z k. elim (p z k) [
-          | inl f ↦ absurd (elim k [
-            | inl g ↦ not_below_itself y (subst (IsActorBelow y) (sym g ∙ f) below)
-            | inr l ↦ not_below_itself y (IsActorBelow-trans y x y below (subst (IsActorBelow x) f (all-member (IsActorBelow x) z xs r.0 l)))
-          ])
-          | inr l ↦ l
-        ]) in omega arith)
+          let rest = part_length (x ∷ xs) ys r s.1 (λ z k. elim (p z k) [
+            | inl f ↦ absurd (elim k [
+              | inl g ↦ not_below_itself y (subst (IsActorBelow y) (sym g ∙ f) below)
+              | inr l ↦ not_below_itself y (IsActorBelow-trans y x y below (subst (IsActorBelow x) f (all-member (IsActorBelow x) z xs r.0 l)))
+            ])
+            | inr l ↦ l
+          ]) in omega arith)
     ]
 
 -- what stands at an index is a member, and has that index

@@ -1,5 +1,5 @@
 -- Which bulletins have a spelling.
-use Rattle.std.specs.Prelude.{ℕ, ◌≡◌, ◌≢◌, ◌<◌, ◌^◌, List, length}
+use Rattle.std.specs.Prelude.{ℕ, ◌≡◌, ◌≢◌, ◌<◌, ◌^◌, List, ◌++◌, length}
 use Rattle.std.specs.List.{AllByRecursion}
 use Rattle.crgc_ids.specs.Actor.{Actor, IsActorBelow, IsPairBelow}
 use Rattle.crgc_ids.specs.Rising.{IsRising}
@@ -10,6 +10,7 @@ use Rattle.history_model.specs.declared.records.Bulletin.TheVariants as bulletin
 use Rattle.history_model.specs.declared.records.Delta.{Delta}
 use Rattle.history_model.specs.declared.records.StateRow.{StateRow}
 use Rattle.history_model.specs.declared.records.Window.{Window}
+use Rattle.wire_grammar.specs.Spelling.{spelled}
 
 abbrev pub IsCount : ℕ → Type 0
 IsCount n = (0 < n) × (n < 2 ^ 32)
@@ -61,3 +62,7 @@ abbrev pub IsSpellable : Bulletin → Type 0
 IsSpellable (bulletins.Delta d) = IsDelta d
 IsSpellable (bulletins.Window w) = IsWindow w
 IsSpellable (bulletins.Final w) = IsWindow w
+
+-- the bytes begin with the spelling of some bulletin
+abbrev pub BeginsWithSpelling : List ℕ → Type 0
+BeginsWithSpelling bytes = (b : Bulletin) × (rest : List ℕ) × (IsSpellable b × (bytes ≡ spelled b ++ rest))
