@@ -1,2 +1,11 @@
-//! x
+//! Bulletins to bytes and back: each has one spelling, and bytes that spell none have one first fault.
 #![tactic(auto)]
+
+mod fault;
+mod names;
+mod reading;
+mod writing;
+
+pub use fault::ReadFault;
+pub use wire_grammar::{WireFault, WireKind};
+pub use writing::write;

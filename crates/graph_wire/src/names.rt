@@ -1,0 +1,102 @@
+//! The actors that a bulletin names, and the table of them.
+ghost use Rattle.std.specs.Prelude.{◌≡◌, ◌<◌, [], ◌∷◌, ◌++◌, OnOk, IfOk};
+ghost use Rattle.std.specs.List.{AllByRecursion};
+ghost use Rattle.wire_grammar.specs.Named.{state_names, count_names, pair_names, delta_names, window_names, names_of, table_of};
+ghost use Rattle.wire_grammar.specs.Spellable.{IsActor};
+ghost use Rattle.graph_wire.specs.Rises.{KeysRise, DeltaRises, WindowRises};
+
+use crgc_ids::{ActorCount, ActorId, NoMemory, PairCount};
+use history_model::{Bulletin, Delta, StateRow, Window};
+use std::alloc::Global;
+
+/// Puts the actor last.
+fn push_name(names: &mut Vec<ActorId>, actor: ActorId) -> Result<(), NoMemory>
+    ensures ok { OnOk result (names.new.items ≡ names.old.items ++ actor ∷ []) }
+    ensures actor { IsActor actor }
+{
+    // An actor's readers say in what range its numbers are.
+    let _ = actor.node().get();
+    let _ = actor.serial();
+    match names.push(actor) {
+        Ok(()) => Ok(()),
+        Err(_) => Err(NoMemory),
+    }
+}
+
+fn push_states(names: &mut Vec<ActorId>, rows: &[StateRow]) -> Result<(), NoMemory>
+    ensures ok { OnOk result (names.new.items ≡ names.old.items ++ state_names rows.now) }
+    ensures actors { OnOk result (AllByRecursion IsActor (state_names rows.now)) }
+{
+    for row in rows {
+        push_name(names, row.actor)?;
+    }
+    Ok(())
+}
+
+fn push_counts(names: &mut Vec<ActorId>, rows: &[ActorCount]) -> Result<(), NoMemory>
+    ensures ok { OnOk result (names.new.items ≡ names.old.items ++ count_names rows.now) }
+    ensures actors { OnOk result (AllByRecursion IsActor (count_names rows.now)) }
+{
+    for row in rows {
+        push_name(names, row.actor)?;
+    }
+    Ok(())
+}
+
+fn push_pairs(names: &mut Vec<ActorId>, rows: &[PairCount]) -> Result<(), NoMemory>
+    ensures ok { OnOk result (names.new.items ≡ names.old.items ++ pair_names rows.now) }
+    ensures actors { OnOk result (AllByRecursion IsActor (pair_names rows.now)) }
+{
+    for row in rows {
+        push_name(names, row.owner)?;
+        push_name(names, row.target)?;
+    }
+    Ok(())
+}
+
+fn push_delta(names: &mut Vec<ActorId>, d: &Delta) -> Result<(), NoMemory>
+    ensures ok { OnOk result (names.new.items ≡ names.old.items ++ delta_names d.now) }
+    ensures actors { OnOk result (AllByRecursion IsActor (delta_names d.now)) }
+    ensures rises { OnOk result (DeltaRises d.now) }
+{
+    push_states(names, d.states.as_slice())?;
+    push_counts(names, d.sent.as_slice())?;
+    push_pairs(names, d.created.as_slice())?;
+    push_pairs(names, d.released.as_slice())
+}
+
+fn push_window(names: &mut Vec<ActorId>, w: &Window) -> Result<(), NoMemory>
+    ensures ok { OnOk result (names.new.items ≡ names.old.items ++ window_names w.now) }
+    ensures actors { OnOk result (AllByRecursion IsActor (window_names w.now)) }
+    ensures rises { OnOk result (WindowRises w.now) }
+{
+    push_counts(names, w.messages.as_slice())?;
+    push_pairs(names, w.carried.as_slice())
+}
+
+/// The actors that rows name, each as often as it is named. Linear time.
+fn names(alloc: Global, b: &Bulletin) -> Result<Vec<ActorId>, NoMemory>
+    ensures value { IfOk result (λ v. v.items ≡ names_of b.now) }
+    ensures actors { OnOk result (AllByRecursion IsActor (names_of b.now)) }
+    ensures rises { OnOk result (KeysRise b.now) }
+{
+    let mut names = Vec::new(alloc);
+    match b {
+        Bulletin::Delta(d) => push_delta(&mut names, d)?,
+        Bulletin::Window(w) => push_window(&mut names, w)?,
+        Bulletin::Final(w) => push_window(&mut names, w)?,
+    }
+    Ok(names)
+}
+
+/// The actors that the bulletin names, rising, each once. They are sorted: time in proportion to n log n for n names.
+pub fn table(alloc: Global, b: &Bulletin) -> Result<Vec<ActorId>, NoMemory>
+    ensures value { IfOk result (λ v. v.items ≡ table_of (names_of b.now)) }
+    ensures actors { OnOk result (AllByRecursion IsActor (names_of b.now)) }
+    ensures rises { OnOk result (KeysRise b.now) }
+{
+    let mut table = names(alloc, b)?;
+    table.sort_unstable();
+    table.dedup();
+    Ok(table)
+}
