@@ -1,2 +1,3 @@
 pub mod Sorting
 pub mod Room
+pub mod Loops

@@ -157,7 +157,7 @@ pub record AreFitting {X : Type 0} (Above : X → X → Type 0) (Fits : X → Ty
   pub fit : AllByRecursion Fits rows
   pub len : IsLen (length rows)
 
-pair_below-decides : (x y : Actor × Actor) → Decides (is_pair_below x y) (IsPairBelow x.0 x.1 y.0 y.1)
+pub pair_below-decides : (x y : Actor × Actor) → Decides (is_pair_below x y) (IsPairBelow x.0 x.1 y.0 y.1)
 pair_below-decides x y =
     Decides-or (is_actor_below x.0 y.0) (same_actor x.0 y.0 && is_actor_below x.1 y.1) (is_actor_below-decides x.0 y.0)
     (Decides-and (same_actor x.0 y.0) (is_actor_below x.1 y.1) (same_actor-decides x.0 y.0) (is_actor_below-decides x.1 y.1))
