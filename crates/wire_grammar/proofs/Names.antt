@@ -1,6 +1,8 @@
 -- The names of rows against a table: which tables have all of them, and how long such a table is.
-use Rattle.std.proofs.Common.{◌≡◌, ◌⊎◌, ◌<◌, ◌≤◌, ◌+◌, ◌*◌, ◌^◌, ℕ, zero, suc, Bool, true, false, cond, ltb, List, [], ◌∷◌, ◌++◌, length, Result, Ok, Err, refl, sym, ap, subst, ◌∙◌, inl, inr, arith}
+use Rattle.std.proofs.Common.{◌≡◌, ◌⊎◌, ◌<◌, ◌≤◌, ◌+◌, ◌*◌, ◌^◌, ℕ, zero, suc, Bool, true, false, cond, ltb, List, [], ◌∷◌, ◌++◌, length, Option, Some, None, Result, Ok, Err, refl, sym, ap, subst, ◌∙◌, inl, inr, arith}
 use Rattle.std.specs.List.{AllByRecursion, flat_map, list_any}
+use Rattle.std.specs.Bool.{Decides}
+use Rattle.std.proofs.lemmas.Bool.Decides.{same_from_decides}
 use Rattle.std.proofs.lemmas.Bool.{ltb-false, ltb-true}
 use Rattle.std.proofs.lemmas.List.Concat.{flat_map-cons}
 use Rattle.crgc_ids.specs.Actor.{Actor, IsActorBelow, same_actor}
@@ -12,7 +14,7 @@ use Rattle.wire_grammar.specs.declared.fault.WireFault.{WireFault}
 use Rattle.wire_grammar.specs.declared.fault.WireKind.TheVariants.{Unused}
 use Rattle.wire_grammar.specs.Fields.{fault}
 use Rattle.wire_grammar.specs.Named.{table_of}
-use Rattle.wire_grammar.specs.Reading.{all_named}
+use Rattle.wire_grammar.specs.Reading.{all_named, unnamed}
 use Rattle.wire_grammar.specs.Spelling.{index_len}
 use Rattle.wire_grammar.specs.Spellable.{AreRows, IsActor}
 use Rattle.wire_grammar.proofs.Readers.{ok_is}
@@ -146,21 +148,48 @@ among names a e =
     let h = list_any-true (same_actor a) names e in
     subst (λ x. IsAmong x names) (sym ((same_actor-decides a h.0).0 h.2)) h.1
 
-pub all_named-ok : {X : Type 0} (names : List Actor) (offset : ℕ) (table : List Actor) (x y : X) → all_named names offset table x ≡ Ok y → IsPart table names × (x ≡ y)
-unfolding all_named
-all_named-ok names offset [] x y e = ((λ z m. absurd m), ok_is x y e)
-all_named-ok {X = X} names offset (a ∷ table) x y e =
-    let P : Bool → Type 0 = λ v. list_any (same_actor a) names ≡ v → cond v (all_named names (offset + 5) table x) (fault {X = X} Unused offset) ≡ Ok y → IsPart (a ∷ table) names × (x ≡ y) in
+-- whether an actor is among others
+pub among-decides : (names : List Actor) (a : Actor) → Decides (list_any (same_actor a) names) (IsAmong a names)
+among-decides names a = (among names a, λ m. list_any-member (same_actor a) a names m ((same_actor-decides a a).1 refl))
+
+pub unnamed-none : (names : List Actor) (offset : ℕ) (table : List Actor) → unnamed names offset table ≡ None → IsPart table names
+unfolding unnamed
+unnamed-none names offset [] e = λ z m. absurd m
+unnamed-none names offset (a ∷ table) e =
+    let P : Bool → Type 0 = λ v. list_any (same_actor a) names ≡ v → cond v (unnamed names (offset + 5) table) (Some offset) ≡ None → IsPart (a ∷ table) names in
     let cases : P (list_any (same_actor a) names) = elim (list_any (same_actor a) names) as P [
-      | true ↦ (λ t f. let rest = all_named-ok names (offset + 5) table x y f in
-          ((λ z m. elim m [ inl k ↦ subst (λ w. IsAmong w names) (sym k) (among names a t) | inr k ↦ rest.0 z k ]), rest.1))
+      | true ↦ (λ t f. let rest = unnamed-none names (offset + 5) table f in λ z m. elim m [ inl k ↦ subst (λ w. IsAmong w names) (sym k) (among names a t) | inr k ↦ rest z k ])
       | false ↦ (λ t f. absurd cc)
     ] in
     cases refl e
 
-pub all_named-again : {X : Type 0} (names : List Actor) (offset : ℕ) (table : List Actor) (x : X) → IsPart table names → all_named names offset table x ≡ Ok x
-unfolding all_named
-all_named-again names offset [] x p = refl
-all_named-again names offset (a ∷ table) x p =
+-- where no fault is met each actor of the table is named
+pub all_named-ok : {X : Type 0} (names : List Actor) (offset : ℕ) (table : List Actor) (x y : X) → all_named (unnamed names offset table) x ≡ Ok y → IsPart table names × (x ≡ y)
+all_named-ok {X = X} names offset table x y e =
+    let P : Option ℕ → Type 0 = λ o. unnamed names offset table ≡ o → all_named o x ≡ Ok y → IsPart table names × (x ≡ y) in
+    let cases : P (unnamed names offset table) = elim (unnamed names offset table) as P [
+      | None ↦ (λ n f. (unnamed-none names offset table n, ok_is x y f))
+      | Some o ↦ (λ n f. absurd cc)
+    ] in
+    cases refl e
+
+pub unnamed-again : (names : List Actor) (offset : ℕ) (table : List Actor) → IsPart table names → unnamed names offset table ≡ None
+unfolding unnamed
+unnamed-again names offset [] p = refl
+unnamed-again names offset (a ∷ table) p =
     let one = list_any-member (same_actor a) a names (p a (inl refl)) ((same_actor-decides a a).1 refl) in
-    rw one (all_named-again names (offset + 5) table x (λ z m. p z (inr m)))
+    rw one (unnamed-again names (offset + 5) table (λ z m. p z (inr m)))
+
+-- where each actor of the table is named no fault is met
+pub all_named-again : {X : Type 0} (names : List Actor) (offset : ℕ) (table : List Actor) (x : X) → IsPart table names → all_named (unnamed names offset table) x ≡ Ok x
+all_named-again {X = X} names offset table x p =
+    let one = unnamed-again names offset table p in rw one refl
+
+-- what is unnamed depends on the members alone
+pub unnamed-same : (xs ys : List Actor) (offset : ℕ) (table : List Actor) → IsPart xs ys → IsPart ys xs → unnamed xs offset table ≡ unnamed ys offset table
+unfolding unnamed
+unnamed-same xs ys offset [] p q = refl
+unnamed-same xs ys offset (a ∷ table) p q =
+    let one : list_any (same_actor a) xs ≡ list_any (same_actor a) ys = same_from_decides (list_any (same_actor a) xs) (list_any (same_actor a) ys) (among-decides xs a)
+    ((λ e. q a ((among-decides ys a).0 e)), (λ m. (among-decides ys a).1 (p a m))) in
+    rw one (ap (λ r. cond (list_any (same_actor a) ys) r (Some offset)) (unnamed-same xs ys (offset + 5) table p q))

@@ -95,11 +95,15 @@ counts_at wide table p = section_at (index_len wide) (λ r. r.actor) (count_row 
 unfoldable pub pairs_at : Bool → List Actor → Reader (List PairCount)
 pairs_at wide table p = section_at 4 (λ r. (r.owner, r.target)) (pair_row wide table) p
 
--- no fault where each actor of the table, the first of which stands at the offset, is named
-unfoldable pub all_named : {X : Type 0} → List Actor → ℕ → List Actor → X → Result X WireFault
-all_named names offset [] x = Ok x
-all_named names offset (a ∷ table) x =
-    if list_any (same_actor a) names then all_named names (offset + 5) table x else fault Unused offset
+-- where the first actor of a table stands that is not among the names; the table begins at the offset
+unfoldable pub unnamed : List Actor → ℕ → List Actor → Option ℕ
+unnamed names offset [] = None
+unnamed names offset (a ∷ table) = if list_any (same_actor a) names then unnamed names (offset + 5) table else Some offset
+
+-- no fault where no actor is unnamed
+abbrev pub all_named : {X : Type 0} → Option ℕ → X → Result X WireFault
+all_named None x = Ok x
+all_named (Some offset) x = fault Unused offset
 
 unfoldable pub delta_at : Bool → Reader Delta
 delta_at wide p = do
@@ -109,7 +113,7 @@ delta_at wide p = do
   sent ← counts_at wide t.0 states.1
   created ← pairs_at wide t.0 sent.1
   released ← pairs_at wide t.0 created.1
-  let d : Delta = record { node = n.0; states = states.0; sent = sent.0; created = created.0; released = released.0 } in all_named (delta_names d) (n.1.offset + index_len wide) t.0 (d, released.1)
+  let d : Delta = record { node = n.0; states = states.0; sent = sent.0; created = created.0; released = released.0 } in all_named (unnamed (delta_names d) (n.1.offset + index_len wide) t.0) (d, released.1)
 
 -- the two nodes of a link: the one at which messages were admitted, and another, from which they came
 abbrev pub link_at : Reader (ℕ × ℕ)
@@ -121,7 +125,7 @@ window_at wide p = do
   t ← table_at wide n.1
   messages ← counts_at wide t.0 t.1
   carried ← pairs_at wide t.0 messages.1
-  let w : Window = record { at = n.0.0; from = n.0.1; messages = messages.0; carried = carried.0 } in all_named (window_names w) (n.1.offset + index_len wide) t.0 (w, carried.1)
+  let w : Window = record { at = n.0.0; from = n.0.1; messages = messages.0; carried = carried.0 } in all_named (unnamed (window_names w) (n.1.offset + index_len wide) t.0) (w, carried.1)
 
 abbrev pub magic_at : Reader ℕ
 magic_at p = checked Magic (λ n. (n == magic false) || (n == magic true)) (number_at 4) p
