@@ -7,6 +7,7 @@ use std::marker::Model;
 
 /// A place in some bytes, from which numbers are taken one after the other. Contracts see how many bytes stand before
 /// the place, and the bytes from there on.
+#[derive(Debug, Drop)]
 pub struct Cursor<'a> {
     offset: usize,
     rest: &'a [u8],

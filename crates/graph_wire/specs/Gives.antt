@@ -25,3 +25,8 @@ with_front front read = read >>= λ x. Ok (front ++ x.0, x.1)
 abbrev pub GivesItems : {X : Type 0} → Place → Result (Vec X) ReadFault → Result (List X × Place) WireFault → Type 0
 GivesItems q (Ok xs) read = read ≡ Ok (xs.items, q)
 GivesItems q (Err e) read = Fails e read
+
+-- what was answered is what reading gives, unless memory ran out
+abbrev pub GivesPrefix : {X : Type 0} → Result X ReadFault → Result X WireFault → Type 0
+GivesPrefix (Ok x) read = read ≡ Ok x
+GivesPrefix (Err e) read = Fails e read

@@ -74,29 +74,47 @@ fn push_window(names: &mut Vec<ActorId>, w: &Window) -> Result<(), NoMemory>
     push_pairs(names, w.carried.as_slice())
 }
 
-/// The actors that rows name, each as often as it is named. Linear time.
-fn names(alloc: Global, b: &Bulletin) -> Result<Vec<ActorId>, NoMemory>
-    ensures value { IfOk result (λ v. v.items ≡ names_of b.now) }
-    ensures actors { OnOk result (AllByRecursion IsActor (names_of b.now)) }
-    ensures rises { OnOk result (KeysRise b.now) }
+/// The actors of a list, rising, each once. Time in proportion to n log n.
+fn sorted(names: Vec<ActorId>) -> Vec<ActorId>
+    ensures { result.items ≡ table_of names.items }
 {
-    let mut names = Vec::new(alloc);
-    match b {
-        Bulletin::Delta(d) => push_delta(&mut names, d)?,
-        Bulletin::Window(w) => push_window(&mut names, w)?,
-        Bulletin::Final(w) => push_window(&mut names, w)?,
-    }
-    Ok(names)
+    let mut table = names;
+    table.sort_unstable();
+    table.dedup();
+    table
 }
 
-/// The actors that the bulletin names, rising, each once. They are sorted: time in proportion to n log n for n names.
+/// The table of the actors that a Delta names.
+pub fn delta_table(alloc: Global, d: &Delta) -> Result<Vec<ActorId>, NoMemory>
+    ensures value { IfOk result (λ v. v.items ≡ table_of (delta_names d.now)) }
+    ensures actors { OnOk result (AllByRecursion IsActor (delta_names d.now)) }
+    ensures rises { OnOk result (DeltaRises d.now) }
+{
+    let mut names = Vec::new(alloc);
+    push_delta(&mut names, d)?;
+    Ok(sorted(names))
+}
+
+/// The table of the actors that a Window or a Final names.
+pub fn window_table(alloc: Global, w: &Window) -> Result<Vec<ActorId>, NoMemory>
+    ensures value { IfOk result (λ v. v.items ≡ table_of (window_names w.now)) }
+    ensures actors { OnOk result (AllByRecursion IsActor (window_names w.now)) }
+    ensures rises { OnOk result (WindowRises w.now) }
+{
+    let mut names = Vec::new(alloc);
+    push_window(&mut names, w)?;
+    Ok(sorted(names))
+}
+
+/// The table of the actors that a bulletin names: rising, each once. Time in proportion to n log n for n names.
 pub fn table(alloc: Global, b: &Bulletin) -> Result<Vec<ActorId>, NoMemory>
     ensures value { IfOk result (λ v. v.items ≡ table_of (names_of b.now)) }
     ensures actors { OnOk result (AllByRecursion IsActor (names_of b.now)) }
     ensures rises { OnOk result (KeysRise b.now) }
 {
-    let mut table = names(alloc, b)?;
-    table.sort_unstable();
-    table.dedup();
-    Ok(table)
+    match b {
+        Bulletin::Delta(d) => delta_table(alloc, d),
+        Bulletin::Window(w) => window_table(alloc, w),
+        Bulletin::Final(w) => window_table(alloc, w),
+    }
 }

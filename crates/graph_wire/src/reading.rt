@@ -14,7 +14,7 @@ use history_model::{StateRow, StateRows};
 use std::alloc::Global;
 use wire_grammar::WireKind;
 
-fn u8_at(cursor: &mut Cursor<'_>) -> Result<u8, ReadFault>
+pub fn u8_at(cursor: &mut Cursor<'_>) -> Result<u8, ReadFault>
     ensures { Gives cursor.new result (number_at 1 cursor.old) }
 {
     let offset = cursor.offset();
@@ -34,7 +34,7 @@ fn u16_at(cursor: &mut Cursor<'_>) -> Result<u16, ReadFault>
     }
 }
 
-fn u32_at(cursor: &mut Cursor<'_>) -> Result<u32, ReadFault>
+pub fn u32_at(cursor: &mut Cursor<'_>) -> Result<u32, ReadFault>
     ensures { Gives cursor.new result (number_at 4 cursor.old) }
 {
     let offset = cursor.offset();
@@ -55,7 +55,7 @@ fn len_at(cursor: &mut Cursor<'_>, wide: bool) -> Result<u32, ReadFault>
     }
 }
 
-fn node_at(cursor: &mut Cursor<'_>) -> Result<NodeId, ReadFault>
+pub fn node_at(cursor: &mut Cursor<'_>) -> Result<NodeId, ReadFault>
     ensures { Gives cursor.new result (node_at cursor.old) }
 {
     let offset = cursor.offset();
@@ -125,7 +125,7 @@ fn table_rows(alloc: Global, cursor: &mut Cursor<'_>, count: u32) -> Result<Vec<
 
 /// The rising table of a bulletin's actors.
 #[tactic(auto, unfolding(wire_grammar::specs::Reading::table_at))]
-fn table_at(alloc: Global, cursor: &mut Cursor<'_>, wide: bool) -> Result<Vec<ActorId>, ReadFault>
+pub fn table_at(alloc: Global, cursor: &mut Cursor<'_>, wide: bool) -> Result<Vec<ActorId>, ReadFault>
     ensures { GivesItems cursor.new result (table_at wide cursor.old) }
 {
     let count = table_len(cursor, wide)?;
@@ -279,7 +279,7 @@ fn state_rows(alloc: Global, cursor: &mut Cursor<'_>, wide: bool, table: &[Actor
 
 /// The states of a Delta.
 #[tactic(auto, unfolding(wire_grammar::specs::Reading::states_at))]
-fn states_at(alloc: Global, cursor: &mut Cursor<'_>, wide: bool, table: &[ActorId]) -> Result<StateRows, ReadFault>
+pub fn states_at(alloc: Global, cursor: &mut Cursor<'_>, wide: bool, table: &[ActorId]) -> Result<StateRows, ReadFault>
     ensures { Gives cursor.new result (states_at wide table.now cursor.old) }
 {
     let count = len_at(cursor, wide)?;
@@ -302,7 +302,7 @@ fn count_rows(alloc: Global, cursor: &mut Cursor<'_>, wide: bool, table: &[Actor
 
 /// A section of actor counts.
 #[tactic(auto, unfolding(wire_grammar::specs::Reading::counts_at))]
-fn counts_at(alloc: Global, cursor: &mut Cursor<'_>, wide: bool, table: &[ActorId]) -> Result<ActorCounts, ReadFault>
+pub fn counts_at(alloc: Global, cursor: &mut Cursor<'_>, wide: bool, table: &[ActorId]) -> Result<ActorCounts, ReadFault>
     ensures { Gives cursor.new result (counts_at wide table.now cursor.old) }
 {
     let count = len_at(cursor, wide)?;
@@ -325,7 +325,7 @@ fn pair_rows(alloc: Global, cursor: &mut Cursor<'_>, wide: bool, table: &[ActorI
 
 /// A section of pair counts.
 #[tactic(auto, unfolding(wire_grammar::specs::Reading::pairs_at))]
-fn pairs_at(alloc: Global, cursor: &mut Cursor<'_>, wide: bool, table: &[ActorId]) -> Result<PairCounts, ReadFault>
+pub fn pairs_at(alloc: Global, cursor: &mut Cursor<'_>, wide: bool, table: &[ActorId]) -> Result<PairCounts, ReadFault>
     ensures { Gives cursor.new result (pairs_at wide table.now cursor.old) }
 {
     let count = u32_at(cursor)?;

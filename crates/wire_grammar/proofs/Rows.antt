@@ -1,11 +1,11 @@
 -- The readers of a bulletin's parts: what is read is spelled so, and what is spelled so is read.
-use Rattle.std.proofs.Common.{◌≡◌, ◌≢◌, ◌⊎◌, ◌<◌, ◌≤◌, ◌+◌, ◌*◌, ◌^◌, ◌%◌, ◌==◌, ◌&&◌, ◌||◌, ℕ, zero, suc, Bool, true, false, cond, ltb, List, [], ◌∷◌, ◌++◌, length, Option, Some, None, Result, Ok, Err, refl, sym, ap, subst, ◌∙◌, inl, inr, arith}
+use Rattle.std.proofs.Common.{◌≡◌, ◌≢◌, ◌⊎◌, ◌<◌, ◌≤◌, ◌+◌, ◌*◌, ◌^◌, ◌%◌, ◌==◌, ◌&&◌, ◌||◌, ℕ, zero, suc, Bool, true, false, cond, ltb, not, List, [], ◌∷◌, ◌++◌, length, Option, Some, None, Result, Ok, Err, refl, sym, ap, subst, ◌∙◌, inl, inr, arith}
 use Rattle.std.specs.List.{AllByRecursion, flat_map, slice_get}
 use Rattle.std.specs.Bool.{Decides}
 use Rattle.std.proofs.lemmas.Bool.{le-ltb, ltb-true, lt-ltb}
 use Rattle.std.proofs.lemmas.Bool.Decides.{Decides-and, Decides-ltb, Decides-or}
-use Rattle.byteorder.specs.Endian.{big_bytes}
-use Rattle.crgc_bytes.specs.Place.{IsBytes, Place}
+use Rattle.byteorder.specs.Endian.{big_bytes, big_number}
+use Rattle.crgc_bytes.specs.Place.{IsBytes, Place, after}
 use Rattle.crgc_ids.specs.Actor.{Actor, IsActorBelow, IsPairBelow, is_actor_below, same_actor}
 use Rattle.crgc_ids.specs.Members.{IsAmong, IsPart}
 use Rattle.crgc_ids.specs.Rising.{IsRising}
@@ -15,13 +15,14 @@ use Rattle.crgc_ids.proofs.ActorLaws.{IsActorBelow-trans, IsPairBelow-trans, is_
 use Rattle.crgc_ids.proofs.MembersLaws.{all-member}
 use Rattle.history_model.specs.declared.records.StateRow.{StateRow}
 use Rattle.wire_grammar.specs.declared.fault.WireFault.{WireFault}
-use Rattle.wire_grammar.specs.declared.fault.WireKind.TheVariants.{Flags, Index, Narrow, Node, Order, Zero}
+use Rattle.wire_grammar.specs.declared.fault.WireKind.{WireKind}
+use Rattle.wire_grammar.specs.declared.fault.WireKind.TheVariants.{Flags, Index, Narrow, Node, Order, Short, Zero}
 use Rattle.wire_grammar.specs.Fields.{◌>>=◌, Reader, both, checked, fault, is_above, made, number_at, rows_at}
 use Rattle.wire_grammar.specs.Named.{index_of, is_wide}
 use Rattle.wire_grammar.specs.Spelling.{actor_text, count_text, counts_text, flags, index_len, index_text, pair_text, pairs_text, state_text, states_text, table_text}
 use Rattle.wire_grammar.specs.Reading.{actor_at, actor_of, count_at, count_row, counts_at, flags_at, index_at, is_pair_below, key_at, node_at, pair_key_at, pair_row, pairs_at, serial_at, state_row, states_at, table_at, table_len_at, table_row}
 use Rattle.wire_grammar.specs.Spellable.{AreRows, IsActor, IsCount}
-use Rattle.wire_grammar.proofs.Readers.{AreChained, IsReader, Moves, bind_ok, both-reader, checked-reader, made-reader, number-reader, ok_is, section-reader}
+use Rattle.wire_grammar.proofs.Readers.{AreChained, IsReader, Moves, bind_ok, both-reader, checked-reader, guard_ok, made-reader, number-reader, ok_is, section-reader}
 use Rattle.wire_grammar.proofs.Tables.{IsTable, index_of-slice_get, slice_get-index_of, slice_get-member}
 
 -- the same reader, with what fits in other words
@@ -262,3 +263,58 @@ module _ (wide : Bool) (table : List Actor) (rises : IsTable table) (short : len
       (λ xs h. (rises-chain key is_pair_below PairAbove (PairFits table) up trans xs h.rise h.fit, h.len))
       (section-reader key is_pair_below (pair_text wide table) (pair_row wide table) (PairFits table) pair-row-reader
       4 (number_at 4) (λ n. n < 2 ^ 32) (number-reader 4))
+
+-- ---- how far a table leads
+
+number-offset : (k : ℕ) (p q : Place) (n : ℕ) → number_at k p ≡ Ok (n, q) → q.offset ≡ p.offset + k
+number-offset k p q n e =
+    let P : Bool → Type 0 = λ v. cond v (fault {X = ℕ × Place} Short p.offset) (Ok (big_number k p.rest, after k p)) ≡ Ok (n, q) → q.offset ≡ p.offset + k in
+    let cases : (v : Bool) → P v = λ v. elim v as P [
+      | true ↦ (λ f. absurd cc)
+      | false ↦ (λ f. sym (ap (λ (z : ℕ × Place). z.1.offset) (ok_is (big_number k p.rest, after k p) (n, q) f)))
+    ] in
+    cases (ltb (length p.rest) k) e
+
+checked-offset : {X : Type 0} (kind : WireKind) (test : X → Bool) (read : Reader X) (k : ℕ) → ((p q : Place) (x : X) → read p ≡ Ok (x, q) → q.offset ≡ p.offset + k)
+    → (p q : Place) (x : X) → checked kind test read p ≡ Ok (x, q) → q.offset ≡ p.offset + k
+checked-offset {X = X} kind test read k f p q x e =
+    let a = bind_ok (read p) (λ y. cond (test y.0) (Ok y) (fault kind p.offset)) (x, q) e in
+    let g = guard_ok (test a.0.0) (record { kind = kind; offset = p.offset }) a.0 (x, q) a.2 in
+    f p q x (a.1 ∙ ap (λ (z : X × Place). Ok z) g.1)
+
+actor-offset : (p q : Place) (a : Actor) → actor_at p ≡ Ok (a, q) → q.offset ≡ p.offset + 5
+actor-offset p q a e =
+    let m = bind_ok (both node_at (λ _. serial_at) p) (λ x. Ok (record { node = x.0.0; serial = x.0.1 }, x.1)) (a, q) e in
+    let n = bind_ok (node_at p) (λ x. serial_at x.1 >>= λ y. Ok ((x.0, y.0), y.1)) m.0 m.1 in
+    let s = bind_ok (serial_at n.0.1) (λ y. Ok ((n.0.0, y.0), y.1)) m.0 n.2 in
+    let one = checked-offset Node (λ n. ltb n 16) (number_at 1) 1 (number-offset 1) p n.0.1 n.0.0 n.1 in
+    let two = checked-offset Node (λ n. ltb n 262144) (number_at 4) 4 (number-offset 4) n.0.1 s.0.1 s.0.0 s.1 in
+    let last = ap (λ (z : Actor × Place). z.1.offset) (ok_is (record { node = m.0.0.0; serial = m.0.0.1 }, m.0.1) (a, q) m.2) in
+    let mid = ap (λ (z : (ℕ × ℕ) × Place). z.1.offset) (ok_is ((n.0.0, s.0.0), s.0.1) m.0 s.2) in
+    omega arith
+
+rows-offset : (n : ℕ) (last : Option Actor) (p q : Place) (xs : List Actor) → rows_at (λ a. a) table_row n last p ≡ Ok (xs, q) → q.offset ≡ p.offset + 5 * length xs
+unfolding rows_at
+rows-offset zero last p q xs e =
+    let same = ok_is ([], p) (xs, q) e in
+    let one = ap (λ (z : List Actor × Place). z.1.offset) same in
+    let two = ap (λ (z : List Actor × Place). length z.0) same in
+    omega arith
+rows-offset (suc n) last p q xs e =
+    let a = bind_ok (table_row last p) (λ x. rows_at (λ a. a) table_row n (Some x.0) x.1 >>= λ ys. Ok (x.0 ∷ ys.0, ys.1)) (xs, q) e in
+    let b = bind_ok (rows_at (λ a. a) table_row n (Some a.0.0) a.0.1) (λ ys. Ok (a.0.0 ∷ ys.0, ys.1)) (xs, q) a.2 in
+    let one = checked-offset Order (is_above is_actor_below last) actor_at 5 actor-offset p a.0.1 a.0.0 a.1 in
+    let two = rows-offset n (Some a.0.0) a.0.1 b.0.1 b.0.0 b.1 in
+    let same = ok_is (a.0.0 ∷ b.0.0, b.0.1) (xs, q) b.2 in
+    let end = ap (λ (z : List Actor × Place). z.1.offset) same in
+    let len = ap (λ (z : List Actor × Place). length z.0) same in
+    omega arith
+
+-- a table ends behind its count and five bytes for each actor
+pub table-offset : (wide : Bool) (p q : Place) (t : List Actor) → table_at wide p ≡ Ok (t, q) → q.offset ≡ (p.offset + index_len wide) + 5 * length t
+unfolding table_at
+table-offset wide p q t e =
+    let n = bind_ok (table_len_at wide p) (λ n. rows_at (λ a. a) table_row n.0 None n.1) (t, q) e in
+    let one = checked-offset Narrow (λ n. not wide || ltb 65535 n) (number_at (index_len wide)) (index_len wide) (number-offset (index_len wide)) p n.0.1 n.0.0 n.1 in
+    let two = rows-offset n.0.0 None n.0.1 q t n.2 in
+    omega arith
