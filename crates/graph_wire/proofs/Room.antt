@@ -12,7 +12,7 @@ use Rattle.history_model.specs.declared.records.StateRow.{StateRow}
 use Rattle.history_model.specs.declared.records.Window.{Window}
 use Rattle.wire_grammar.specs.Named.{count_names, delta_names, is_wide, names_of, pair_names, state_names, table_of, window_names}
 use Rattle.wire_grammar.specs.Spelling.{index_len}
-use Rattle.wire_grammar.specs.Spellable.{IsActor}
+use Rattle.wire_grammar.specs.Spellable.{IsActor, IsSpellable}
 use Rattle.wire_grammar.proofs.Names.{all-from_each, each-left, each-right, rows_length, table_short}
 use Rattle.wire_grammar.proofs.Tables.{table_of-has, table_of-only, table_of-rises}
 use Rattle.graph_wire.specs.Rises.{DeltaRises, KeysRise, WindowRises}
@@ -66,3 +66,9 @@ window-ready b w table n (inl e) h all up made len =
     window-ready-from w table n (subst IsWritable e h) (subst (λ x. AllByRecursion IsActor (names_of x)) e all) (subst KeysRise e up) (made ∙ ap (λ x. table_of (names_of x)) e) len
 window-ready b w table n (inr e) h all up made len =
     window-ready-from w table n (subst IsWritable e h) (subst (λ x. AllByRecursion IsActor (names_of x)) e all) (subst KeysRise e up) (made ∙ ap (λ x. table_of (names_of x)) e) len
+
+-- what has a spelling can be written
+pub spellable-writable : (b : Bulletin) → IsSpellable b → IsWritable b
+spellable-writable (bulletins.Delta d) h = record { states = h.states.fit; sent = h.sent.fit; created = h.created.fit; released = h.released.fit }
+spellable-writable (bulletins.Window w) h = record { link = h.link; messages = h.messages.fit; carried = h.carried.fit }
+spellable-writable (bulletins.Final w) h = record { link = h.link; messages = h.messages.fit; carried = h.carried.fit }

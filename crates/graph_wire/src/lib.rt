@@ -12,3 +12,6 @@ pub use bulletins::read;
 pub use fault::ReadFault;
 pub use wire_grammar::{WireFault, WireKind};
 pub use writing::write;
+
+#[cfg(test)]
+mod tests;
