@@ -57,19 +57,19 @@ pub record AreReady {X K : Type 0} (key : X → K) (below : K → K → Bool) (A
   pub cap : (y : X) → is_above below last (key y) ≡ true → AllByRecursion (λ x. Above x y) rows
 
 module _ {X K : Type 0} (key : X → K) (below : K → K → Bool) (Above : X → X → Type 0)
-  (up : (x y : X) → Decides (below (key x) (key y)) (Above x y)) (trans : (x y z : X) → Above x y → Above y z → Above x z)
- where
-  ready-none : AreReady key below Above None []
-  ready-none = record { rise = tt; cap = λ y h. tt }
+    (up : (x y : X) → Decides (below (key x) (key y)) (Above x y)) (trans : (x y z : X) → Above x y → Above y z → Above x z)
+  where
+    ready-none : AreReady key below Above None []
+    ready-none = record { rise = tt; cap = λ y h. tt }
 
-  ready-rises : (last : Option K) (rows : List X) (y : X) → AreReady key below Above last rows → is_above below last (key y) ≡ true → IsRising Above (rows ++ y ∷ [])
-  ready-rises last rows y h t = IsRising-push Above rows y h.rise (h.cap y t)
+    ready-rises : (last : Option K) (rows : List X) (y : X) → AreReady key below Above last rows → is_above below last (key y) ≡ true → IsRising Above (rows ++ y ∷ [])
+    ready-rises last rows y h t = IsRising-push Above rows y h.rise (h.cap y t)
 
-  ready-push : (last : Option K) (rows : List X) (y : X) → AreReady key below Above last rows → is_above below last (key y) ≡ true → AreReady key below Above (Some (key y)) (rows ++ y ∷ [])
-  ready-push last rows y h t = record {
-    rise = ready-rises last rows y h t;
-    cap = λ z k. let yz = (up y z).0 k in All-push (λ x. Above x z) rows y (all_like (λ x. Above x y) (λ x. Above x z) (λ x g. trans x y z g yz) rows (h.cap y t)) yz;
-  }
+    ready-push : (last : Option K) (rows : List X) (y : X) → AreReady key below Above last rows → is_above below last (key y) ≡ true → AreReady key below Above (Some (key y)) (rows ++ y ∷ [])
+    ready-push last rows y h t = record {
+      rise = ready-rises last rows y h t;
+      cap = λ z k. let yz = (up y z).0 k in All-push (λ x. Above x z) rows y (all_like (λ x. Above x y) (λ x. Above x z) (λ x g. trans x y z g yz) rows (h.cap y t)) yz;
+    }
 
 -- ---- the three kinds of rows
 

@@ -202,11 +202,11 @@ search-tells table a (Err i) t le h =
     let P : Bool → Type 0 = λ v. list_any (same_actor a) table ≡ v → false ≡ v in
     let cases : P (list_any (same_actor a) table) = elim (list_any (same_actor a) table) as P [
       | true ↦ (λ e. let m = contains-from_among table a ((among-decides table a).0 e) in
-        let equal = cmp_same (get_or table m.0 a) a m.2 in
-        elim (cases_lt m.0 i) [
-          | inl lt ↦ (let bad = sym equal ∙ parts.0 m.0 a (omega arith) lt in absurd cc)
-          | inr ge ↦ (let bad = sym equal ∙ parts.1 m.0 a ge m.1 in absurd cc)
-        ])
+          let equal = cmp_same (get_or table m.0 a) a m.2 in
+          elim (cases_lt m.0 i) [
+            | inl lt ↦ (let bad = sym equal ∙ parts.0 m.0 a (omega arith) lt in absurd cc)
+            | inr ge ↦ (let bad = sym equal ∙ parts.1 m.0 a ge m.1 in absurd cc)
+          ])
       | false ↦ (λ e. refl)
     ] in
     cases refl

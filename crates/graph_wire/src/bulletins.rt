@@ -132,7 +132,12 @@ fn kind_at(cursor: &mut Cursor<'_>) -> Result<u8, ReadFault>
     Ok(kind)
 }
 
-fn body_at(alloc: Global, cursor: &mut Cursor<'_>, wide: bool, kind: u8) -> Result<Bulletin, ReadFault>
+fn body_at(
+    alloc: Global,
+    cursor: &mut Cursor<'_>,
+    wide: bool,
+    kind: u8,
+) -> Result<Bulletin, ReadFault>
     ensures { Gives cursor.new result (body_at wide kind cursor.old) }
 {
     match kind {

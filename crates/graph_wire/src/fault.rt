@@ -9,7 +9,9 @@ use wire_grammar::{WireFault, WireKind};
 /// Why no bulletin is answered: the first fault of the bytes, or want of memory.
 #[derive(Clone, Copy, PartialEq, Eq, Debug)]
 pub enum ReadFault {
+    /// The bytes begin with no spelling: their first fault.
     Wire(WireFault),
+    /// Memory ran out.
     NoMemory,
 }
 

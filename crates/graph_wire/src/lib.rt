@@ -7,11 +7,12 @@ mod names;
 mod reading;
 mod writing;
 
-
 pub use bulletins::read;
 pub use fault::ReadFault;
 pub use wire_grammar::{WireFault, WireKind};
 pub use writing::write;
 
+#[cfg(test)]
+mod plain;
 #[cfg(test)]
 mod tests;

@@ -125,7 +125,11 @@ fn table_rows(alloc: Global, cursor: &mut Cursor<'_>, count: u32) -> Result<Vec<
 
 /// The rising table of a bulletin's actors.
 #[tactic(auto, unfolding(wire_grammar::specs::Reading::table_at))]
-pub fn table_at(alloc: Global, cursor: &mut Cursor<'_>, wide: bool) -> Result<Vec<ActorId>, ReadFault>
+pub fn table_at(
+    alloc: Global,
+    cursor: &mut Cursor<'_>,
+    wide: bool,
+) -> Result<Vec<ActorId>, ReadFault>
     ensures { GivesItems cursor.new result (table_at wide cursor.old) }
 {
     let count = table_len(cursor, wide)?;
@@ -146,7 +150,12 @@ fn index_at(cursor: &mut Cursor<'_>, wide: bool, table: &[ActorId]) -> Result<Ac
 }
 
 /// The actor of a row, above the one of the row before it.
-fn key_at(cursor: &mut Cursor<'_>, wide: bool, table: &[ActorId], last: Option<ActorId>) -> Result<ActorId, ReadFault>
+fn key_at(
+    cursor: &mut Cursor<'_>,
+    wide: bool,
+    table: &[ActorId],
+    last: Option<ActorId>,
+) -> Result<ActorId, ReadFault>
     ensures gives { Gives cursor.new result (key_at wide table.now last cursor.old) }
     ensures above { IfOk result (λ a. is_above is_actor_below last a ≡ true) }
 {
@@ -217,7 +226,12 @@ fn count_at(cursor: &mut Cursor<'_>) -> Result<u32, ReadFault>
 }
 
 #[tactic(auto, unfolding(wire_grammar::specs::Reading::state_row))]
-fn state_row(cursor: &mut Cursor<'_>, wide: bool, table: &[ActorId], last: Option<ActorId>) -> Result<StateRow, ReadFault>
+fn state_row(
+    cursor: &mut Cursor<'_>,
+    wide: bool,
+    table: &[ActorId],
+    last: Option<ActorId>,
+) -> Result<StateRow, ReadFault>
     ensures gives { Gives cursor.new result (state_row wide table.now last cursor.old) }
     ensures above { IfOk result (λ r. is_above is_actor_below last r.actor ≡ true) }
 {
@@ -233,7 +247,12 @@ fn state_row(cursor: &mut Cursor<'_>, wide: bool, table: &[ActorId], last: Optio
 }
 
 #[tactic(auto, unfolding(wire_grammar::specs::Reading::count_row))]
-fn count_row(cursor: &mut Cursor<'_>, wide: bool, table: &[ActorId], last: Option<ActorId>) -> Result<ActorCount, ReadFault>
+fn count_row(
+    cursor: &mut Cursor<'_>,
+    wide: bool,
+    table: &[ActorId],
+    last: Option<ActorId>,
+) -> Result<ActorCount, ReadFault>
     ensures gives { Gives cursor.new result (count_row wide table.now last cursor.old) }
     ensures above { IfOk result (λ r. is_above is_actor_below last r.actor ≡ true) }
     ensures stands { IfOk result (λ r. 0 < r.count) }
@@ -263,7 +282,13 @@ fn pair_row(
     })
 }
 
-fn state_rows(alloc: Global, cursor: &mut Cursor<'_>, wide: bool, table: &[ActorId], count: u32) -> Result<StateRows, ReadFault>
+fn state_rows(
+    alloc: Global,
+    cursor: &mut Cursor<'_>,
+    wide: bool,
+    table: &[ActorId],
+    count: u32,
+) -> Result<StateRows, ReadFault>
     ensures { Gives cursor.new result (rows_at (λ r. r.actor) (state_row wide table.now) count None cursor.old) }
 {
     let mut rows = StateRows::new(alloc);
@@ -279,14 +304,25 @@ fn state_rows(alloc: Global, cursor: &mut Cursor<'_>, wide: bool, table: &[Actor
 
 /// The states of a Delta.
 #[tactic(auto, unfolding(wire_grammar::specs::Reading::states_at))]
-pub fn states_at(alloc: Global, cursor: &mut Cursor<'_>, wide: bool, table: &[ActorId]) -> Result<StateRows, ReadFault>
+pub fn states_at(
+    alloc: Global,
+    cursor: &mut Cursor<'_>,
+    wide: bool,
+    table: &[ActorId],
+) -> Result<StateRows, ReadFault>
     ensures { Gives cursor.new result (states_at wide table.now cursor.old) }
 {
     let count = len_at(cursor, wide)?;
     state_rows(alloc, cursor, wide, table, count)
 }
 
-fn count_rows(alloc: Global, cursor: &mut Cursor<'_>, wide: bool, table: &[ActorId], count: u32) -> Result<ActorCounts, ReadFault>
+fn count_rows(
+    alloc: Global,
+    cursor: &mut Cursor<'_>,
+    wide: bool,
+    table: &[ActorId],
+    count: u32,
+) -> Result<ActorCounts, ReadFault>
     ensures { Gives cursor.new result (rows_at (λ r. r.actor) (count_row wide table.now) count None cursor.old) }
 {
     let mut rows = ActorCounts::new(alloc);
@@ -302,14 +338,25 @@ fn count_rows(alloc: Global, cursor: &mut Cursor<'_>, wide: bool, table: &[Actor
 
 /// A section of actor counts.
 #[tactic(auto, unfolding(wire_grammar::specs::Reading::counts_at))]
-pub fn counts_at(alloc: Global, cursor: &mut Cursor<'_>, wide: bool, table: &[ActorId]) -> Result<ActorCounts, ReadFault>
+pub fn counts_at(
+    alloc: Global,
+    cursor: &mut Cursor<'_>,
+    wide: bool,
+    table: &[ActorId],
+) -> Result<ActorCounts, ReadFault>
     ensures { Gives cursor.new result (counts_at wide table.now cursor.old) }
 {
     let count = len_at(cursor, wide)?;
     count_rows(alloc, cursor, wide, table, count)
 }
 
-fn pair_rows(alloc: Global, cursor: &mut Cursor<'_>, wide: bool, table: &[ActorId], count: u32) -> Result<PairCounts, ReadFault>
+fn pair_rows(
+    alloc: Global,
+    cursor: &mut Cursor<'_>,
+    wide: bool,
+    table: &[ActorId],
+    count: u32,
+) -> Result<PairCounts, ReadFault>
     ensures { Gives cursor.new result (rows_at (λ r. (r.owner, r.target)) (pair_row wide table.now) count None cursor.old) }
 {
     let mut rows = PairCounts::new(alloc);
@@ -325,7 +372,12 @@ fn pair_rows(alloc: Global, cursor: &mut Cursor<'_>, wide: bool, table: &[ActorI
 
 /// A section of pair counts.
 #[tactic(auto, unfolding(wire_grammar::specs::Reading::pairs_at))]
-pub fn pairs_at(alloc: Global, cursor: &mut Cursor<'_>, wide: bool, table: &[ActorId]) -> Result<PairCounts, ReadFault>
+pub fn pairs_at(
+    alloc: Global,
+    cursor: &mut Cursor<'_>,
+    wide: bool,
+    table: &[ActorId],
+) -> Result<PairCounts, ReadFault>
     ensures { Gives cursor.new result (pairs_at wide table.now cursor.old) }
 {
     let count = u32_at(cursor)?;

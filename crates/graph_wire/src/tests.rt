@@ -1,19 +1,35 @@
 use super::*;
+use crate::plain::plain;
 use crgc_ids::Octets;
 use std::alloc::{AllocError, Global};
 use std::test::Fail;
 
 /// The Delta of a seed that spawned an actor and dropped it.
-const DELTA: [u8; 76] = [67, 82, 71, 49, 1, 0, 0, 2, 0, 0, 0, 0, 0, 0, 0, 0, 0, 1, 0, 2, 0, 0, 0, 0, 0, 0, 2, 0, 1, 0, 0, 0, 0, 0, 0, 0, 0, 0, 0, 3, 0, 0, 0, 0, 0, 0, 0, 1, 0, 0, 0, 1, 0, 0, 0, 1, 0, 1, 0, 1, 0, 0, 0, 1, 0, 0, 0, 1, 0, 0, 0, 1, 0, 0, 0, 1];
+const DELTA: [u8; 76] = [
+    67, 82, 71, 49, 1, 0, 0, 2, 0, 0, 0, 0, 0, 0, 0, 0, 0, 1, 0, 2, 0, 0, 0, 0, 0, 0, 2, 0, 1, 0,
+    0, 0, 0, 0, 0, 0, 0, 0, 0, 3, 0, 0, 0, 0, 0, 0, 0, 1, 0, 0, 0, 1, 0, 0, 0, 1, 0, 1, 0, 1, 0, 0,
+    0, 1, 0, 0, 0, 1, 0, 0, 0, 1, 0, 0, 0, 1,
+];
 
 /// The Final of a link from 0 to 1 that admitted one message.
-const FINAL: [u8; 26] = [67, 82, 71, 49, 3, 1, 0, 0, 1, 1, 0, 0, 0, 1, 0, 1, 0, 0, 0, 0, 0, 1, 0, 0, 0, 0];
+const FINAL: [u8; 26] = [
+    67, 82, 71, 49, 3, 1, 0, 0, 1, 1, 0, 0, 0, 1, 0, 1, 0, 0, 0, 0, 0, 1, 0, 0, 0, 0,
+];
 
 /// Where the fields of the Delta begin.
-const FIELDS: [usize; 30] = [0, 4, 5, 6, 8, 9, 13, 14, 18, 20, 22, 26, 27, 29, 33, 34, 36, 40, 42, 44, 48, 50, 52, 56, 58, 60, 64, 68, 70, 72];
+const FIELDS: [usize; 30] = [
+    0, 4, 5, 6, 8, 9, 13, 14, 18, 20, 22, 26, 27, 29, 33, 34, 36, 40, 42, 44, 48, 50, 52, 56, 58,
+    60, 64, 68, 70, 72,
+];
 
 /// The bytes, with others in the place of those between two indexes.
-fn changed(alloc: Global, bytes: &[u8], from: usize, others: &[u8], to: usize) -> Result<Vec<u8>, AllocError> {
+fn changed(
+    alloc: Global,
+    bytes: &[u8],
+    from: usize,
+    others: &[u8],
+    to: usize,
+) -> Result<Vec<u8>, AllocError> {
     let mut out = Vec::new(alloc);
     for (i, byte) in bytes.iter().enumerate() {
         if i == from {
@@ -102,18 +118,42 @@ fn each_broken_form_has_its_fault(rt: HostRuntime) -> Result<(), Fail> {
         (&DELTA, 0, &[0x44], 1, WireKind::Magic, 0),
         (&DELTA, 4, &[4], 5, WireKind::Kind, 4),
         (&DELTA, 5, &[16], 6, WireKind::Node, 5),
-        (&DELTA, 8, &[0, 0, 0, 0, 1, 0, 0, 0, 0, 0], 18, WireKind::Order, 13),
+        (
+            &DELTA,
+            8,
+            &[0, 0, 0, 0, 1, 0, 0, 0, 0, 0],
+            18,
+            WireKind::Order,
+            13,
+        ),
         (&DELTA, 27, &[0, 2], 29, WireKind::Index, 27),
         (&DELTA, 27, &[0, 0], 29, WireKind::Order, 27),
         (&DELTA, 26, &[4], 27, WireKind::Flags, 26),
         (&DELTA, 44, &[0, 0, 0, 0], 48, WireKind::Zero, 44),
-        (&DELTA, 6, &[0, 3, 0, 0, 0, 0, 0, 0, 0, 0, 0, 1, 0, 0, 0, 0, 2], 18, WireKind::Unused, 18),
-        (&DELTA, 0, b"CRG2\x01\x00\x00\x00\x00\x02", 76, WireKind::Narrow, 6),
+        (
+            &DELTA,
+            6,
+            &[0, 3, 0, 0, 0, 0, 0, 0, 0, 0, 0, 1, 0, 0, 0, 0, 2],
+            18,
+            WireKind::Unused,
+            18,
+        ),
+        (
+            &DELTA,
+            0,
+            b"CRG2\x01\x00\x00\x00\x00\x02",
+            76,
+            WireKind::Narrow,
+            6,
+        ),
         (&FINAL, 6, &[1], 7, WireKind::Node, 6),
     ];
     for (bytes, from, others, to, kind, offset) in cases {
         let broken = changed(rt.alloc(), bytes, from, others, to)?;
-        assert_eq!(rt; fault_in(rt.alloc(), &broken), Some(WireFault { kind, offset }));
+        assert_eq!(rt;
+            fault_in(rt.alloc(), &broken),
+            Some(WireFault { kind, offset })
+        );
     }
     Ok(())
 }
@@ -128,6 +168,24 @@ fn each_prefix_is_short_where_it_cuts_a_field(rt: HostRuntime) {
                 offset = start;
             }
         }
-        assert_eq!(rt; fault_in(rt.alloc(), &DELTA[..n]), Some(WireFault { kind, offset }), "{n} bytes");
+        assert_eq!(rt;
+            fault_in(rt.alloc(), &DELTA[..n]),
+            Some(WireFault { kind, offset }),
+            "{n} bytes"
+        );
     }
+}
+
+#[test]
+fn a_plain_reader_agrees_on_each_byte_that_is_turned_round(rt: HostRuntime) -> Result<(), Fail> {
+    for (i, byte) in DELTA.iter().enumerate() {
+        let turned = changed(rt.alloc(), &DELTA, i, &[!*byte], i.saturating_add(1))?;
+        assert_eq!(rt;
+            fault_in(rt.alloc(), &turned),
+            plain(&turned).err(),
+            "byte {i}"
+        );
+    }
+    assert_eq!(rt; plain(&DELTA), Ok(76));
+    Ok(())
 }

@@ -70,7 +70,12 @@ fn index(table: &[ActorId], actor: ActorId) -> usize
     }
 }
 
-fn put_index(out: &mut Octets, wide: bool, table: &[ActorId], actor: ActorId) -> Result<(), NoMemory>
+fn put_index(
+    out: &mut Octets,
+    wide: bool,
+    table: &[ActorId],
+    actor: ActorId,
+) -> Result<(), NoMemory>
     requires rises { IsRising IsActorBelow table.now }
     requires room { length table.now < 256 ^ index_len wide }
     ensures { OnOk result (out.new ≡ out.old ++ index_text wide table.now actor) }
@@ -88,7 +93,12 @@ fn put_state(out: &mut Octets, wide: bool, table: &[ActorId], row: StateRow) -> 
     out.push(u8::from(row.busy) + 2 * u8::from(row.root))
 }
 
-fn put_count(out: &mut Octets, wide: bool, table: &[ActorId], row: ActorCount) -> Result<(), NoMemory>
+fn put_count(
+    out: &mut Octets,
+    wide: bool,
+    table: &[ActorId],
+    row: ActorCount,
+) -> Result<(), NoMemory>
     requires rises { IsRising IsActorBelow table.now }
     requires room { length table.now < 256 ^ index_len wide }
     ensures { OnOk result (out.new ≡ out.old ++ count_text wide table.now row) }
@@ -107,7 +117,12 @@ fn put_pair(out: &mut Octets, wide: bool, table: &[ActorId], row: PairCount) -> 
     put_u32(out, row.count)
 }
 
-fn put_states(out: &mut Octets, wide: bool, table: &[ActorId], rows: &[StateRow]) -> Result<(), NoMemory>
+fn put_states(
+    out: &mut Octets,
+    wide: bool,
+    table: &[ActorId],
+    rows: &[StateRow],
+) -> Result<(), NoMemory>
     requires rises { IsRising IsActorBelow table.now }
     requires room { length table.now < 256 ^ index_len wide }
     requires few { length rows.now < 256 ^ index_len wide }
@@ -120,7 +135,12 @@ fn put_states(out: &mut Octets, wide: bool, table: &[ActorId], rows: &[StateRow]
     Ok(())
 }
 
-fn put_counts(out: &mut Octets, wide: bool, table: &[ActorId], rows: &[ActorCount]) -> Result<(), NoMemory>
+fn put_counts(
+    out: &mut Octets,
+    wide: bool,
+    table: &[ActorId],
+    rows: &[ActorCount],
+) -> Result<(), NoMemory>
     requires rises { IsRising IsActorBelow table.now }
     requires room { length table.now < 256 ^ index_len wide }
     requires few { length rows.now < 256 ^ index_len wide }
@@ -133,7 +153,12 @@ fn put_counts(out: &mut Octets, wide: bool, table: &[ActorId], rows: &[ActorCoun
     Ok(())
 }
 
-fn put_pairs(out: &mut Octets, wide: bool, table: &[ActorId], rows: &[PairCount]) -> Result<(), NoMemory>
+fn put_pairs(
+    out: &mut Octets,
+    wide: bool,
+    table: &[ActorId],
+    rows: &[PairCount],
+) -> Result<(), NoMemory>
     requires rises { IsRising IsActorBelow table.now }
     requires room { length table.now < 256 ^ index_len wide }
     requires few { length rows.now < 2 ^ 32 }
