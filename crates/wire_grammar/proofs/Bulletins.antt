@@ -1,13 +1,12 @@
 -- Whole bulletins: what is read is the bulletin that is spelled so, and each spelling is read.
-use Rattle.std.proofs.Common.{◌≡◌, ◌≢◌, ◌⊎◌, ◌<◌, ◌≤◌, ◌+◌, ◌^◌, ◌==◌, ◌&&◌, ◌||◌, ℕ, zero, suc, Bool, true, false, cond, eqb, ltb, not, List, [], ◌∷◌, ◌++◌, length, drop, Result, Ok, Err, refl, sym, ap, subst, ◌∙◌, inl, inr, arith}
-use Rattle.std.specs.List.{AllByRecursion, flat_map}
+use Rattle.std.proofs.Common.{◌≡◌, ◌≢◌, ◌⊎◌, ◌<◌, ◌≤◌, ◌+◌, ◌^◌, ◌==◌, ◌&&◌, ◌||◌, ℕ, zero, suc, Bool, true, false, eqb, ltb, not, List, [], ◌∷◌, ◌++◌, length, drop, Result, Ok, Err, refl, sym, ap, subst, ◌∙◌, inl, inr, arith}
+use Rattle.std.specs.List.{AllByRecursion}
 use Rattle.std.proofs.lemmas.List.{append-nil, drop_at, length-append, nil_from_length}
 use Rattle.std.proofs.lemmas.Bool.{eqb-false, eqb-true, lt-ltb, ltb-true, ne_eqb}
 use Rattle.byteorder.specs.Endian.{big_bytes}
 use Rattle.crgc_bytes.specs.Place.{IsBytes, Place}
 use Rattle.crgc_ids.specs.Actor.{Actor, IsActorBelow, IsPairBelow}
 use Rattle.crgc_ids.specs.Members.{IsAmong, IsPart}
-use Rattle.crgc_ids.specs.Rising.{IsRising}
 use Rattle.crgc_ids.specs.declared.rising.ActorCount.{ActorCount}
 use Rattle.crgc_ids.specs.declared.rising.PairCount.{PairCount}
 use Rattle.crgc_ids.proofs.MembersLaws.{all-member}
@@ -18,14 +17,14 @@ use Rattle.history_model.specs.declared.records.StateRow.{StateRow}
 use Rattle.history_model.specs.declared.records.Window.{Window}
 use Rattle.wire_grammar.specs.declared.fault.WireFault.{WireFault}
 use Rattle.wire_grammar.specs.declared.fault.WireKind.TheVariants.{Kind, Magic, Node}
-use Rattle.wire_grammar.specs.Fields.{◌>>=◌, Reader, both, checked, made, number_at}
+use Rattle.wire_grammar.specs.Fields.{Reader, made}
 use Rattle.wire_grammar.specs.Named.{count_names, delta_names, is_wide, names_of, pair_names, state_names, table_of, window_names}
 use Rattle.wire_grammar.specs.Spelling.{counts_text, delta_text, index_len, magic, pairs_text, spelled, states_text, table_text, window_text}
-use Rattle.wire_grammar.specs.Reading.{all_named, body_at, bulletin_at, counts_at, delta_at, kind_at, link_at, magic_at, node_at, pairs_at, reading, states_at, table_at, window_at}
+use Rattle.wire_grammar.specs.Reading.{body_at, bulletin_at, counts_at, delta_at, kind_at, link_at, magic_at, node_at, pairs_at, reading, states_at, table_at, window_at}
 use Rattle.wire_grammar.specs.Spellable.{AreCounts, ArePairs, AreStates, BeginsWithSpelling, IsActor, IsActorCount, IsDelta, IsPairCount, IsSpellable, IsStateRow, IsWindow}
-use Rattle.wire_grammar.proofs.Readers.{IsReader, Moves, Moves-bytes, Moves-first, Moves-second, Moves-then, between, bind_ok, both-reader, checked-reader, made-reader, number-reader, ok_is}
+use Rattle.wire_grammar.proofs.Readers.{IsReader, Moves, Moves-bytes, Moves-first, Moves-second, Moves-then, between, bind_ok, both-reader, checked-reader, number-reader, ok_is}
 use Rattle.wire_grammar.proofs.Rows.{AreFitting, CountFits, PairFits, StateFits, counts-reader, node-reader, pairs-reader, reader-like, states-reader, table-reader}
-use Rattle.wire_grammar.proofs.Names.{Each, all-from_each, all_named-again, all_named-ok, each-both, each-left, each-right, len_short, rows-actors, rows-fit, rows-found, rows-named, rows_length, table_is, table_length, table_short}
+use Rattle.wire_grammar.proofs.Names.{Each, all-from_each, all_named-again, all_named-ok, each-both, each-left, each-right, len_short, rows-actors, rows-fit, rows-found, rows-named, rows_length, table_is, table_short}
 use Rattle.wire_grammar.proofs.Tables.{IsTable, table_of-has, table_of-only, table_of-rises}
 
 abbrev StateAbove : StateRow → StateRow → Type 0

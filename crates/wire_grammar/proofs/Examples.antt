@@ -1,10 +1,9 @@
 -- The definitions, computed on worked bytes.
-use Rattle.std.proofs.Common.{◌≡◌, ℕ, Bool, true, false, List, [], ◌∷◌, ◌++◌, refl, Result, Ok, Err}
+use Rattle.std.proofs.Common.{◌≡◌, ℕ, true, false, List, [], ◌∷◌, ◌++◌, refl, Result, Ok}
 use Rattle.crgc_ids.specs.Actor.{Actor}
 use Rattle.history_model.specs.declared.records.Bulletin.{Bulletin}
 use Rattle.history_model.specs.declared.records.Bulletin.TheVariants as bulletins
 use Rattle.wire_grammar.specs.declared.fault.WireFault.{WireFault}
-use Rattle.wire_grammar.specs.declared.fault.WireKind.{WireKind}
 use Rattle.wire_grammar.specs.declared.fault.WireKind.TheVariants.{Short, Magic, Kind, Node, Order, Index, Zero, Flags, Unused, Narrow}
 use Rattle.wire_grammar.specs.Fields.{fault, rows_at}
 use Rattle.wire_grammar.specs.Named.{index_of, table_of}

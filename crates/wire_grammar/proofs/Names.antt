@@ -1,18 +1,15 @@
 -- The names of rows against a table: which tables have all of them, and how long such a table is.
-use Rattle.std.proofs.Common.{◌≡◌, ◌⊎◌, ◌<◌, ◌≤◌, ◌+◌, ◌*◌, ◌^◌, ℕ, zero, suc, Bool, true, false, cond, ltb, List, [], ◌∷◌, ◌++◌, length, Option, Some, None, Result, Ok, Err, refl, sym, ap, subst, ◌∙◌, inl, inr, arith}
+use Rattle.std.proofs.Common.{◌≡◌, ◌<◌, ◌≤◌, ◌+◌, ◌*◌, ◌^◌, ℕ, suc, Bool, true, false, cond, ltb, List, [], ◌∷◌, ◌++◌, length, Option, Some, None, Ok, refl, sym, ap, subst, ◌∙◌, inl, inr, arith}
 use Rattle.std.specs.List.{AllByRecursion, flat_map, list_any}
 use Rattle.std.specs.Bool.{Decides}
 use Rattle.std.proofs.lemmas.Bool.Decides.{same_from_decides}
-use Rattle.std.proofs.lemmas.Bool.{ltb-false, ltb-true}
+use Rattle.std.proofs.lemmas.Bool.{ltb-false}
 use Rattle.std.proofs.lemmas.List.Concat.{flat_map-cons}
 use Rattle.crgc_ids.specs.Actor.{Actor, IsActorBelow, same_actor}
 use Rattle.crgc_ids.specs.Members.{IsAmong, IsPart}
 use Rattle.crgc_ids.specs.Rising.{IsRising}
 use Rattle.crgc_ids.proofs.ActorLaws.{same_actor-decides}
-use Rattle.crgc_ids.proofs.MembersLaws.{IsAmong-append_cases, IsAmong-append_left, IsAmong-append_right, all-member, list_any-member, list_any-true}
-use Rattle.wire_grammar.specs.declared.fault.WireFault.{WireFault}
-use Rattle.wire_grammar.specs.declared.fault.WireKind.TheVariants.{Unused}
-use Rattle.wire_grammar.specs.Fields.{fault}
+use Rattle.crgc_ids.proofs.MembersLaws.{IsAmong-append_cases, IsAmong-append_left, IsAmong-append_right, list_any-member, list_any-true}
 use Rattle.wire_grammar.specs.Named.{table_of}
 use Rattle.wire_grammar.specs.Reading.{all_named, unnamed}
 use Rattle.wire_grammar.specs.Spelling.{index_len}

@@ -1,27 +1,25 @@
 -- The readers of a bulletin's parts: what is read is spelled so, and what is spelled so is read.
-use Rattle.std.proofs.Common.{◌≡◌, ◌≢◌, ◌⊎◌, ◌<◌, ◌≤◌, ◌+◌, ◌*◌, ◌^◌, ◌%◌, ◌==◌, ◌&&◌, ◌||◌, ℕ, zero, suc, Bool, true, false, cond, ltb, not, List, [], ◌∷◌, ◌++◌, length, Option, Some, None, Result, Ok, Err, refl, sym, ap, subst, ◌∙◌, inl, inr, arith}
-use Rattle.std.specs.List.{AllByRecursion, flat_map, slice_get}
+use Rattle.std.proofs.Common.{◌≡◌, ◌<◌, ◌≤◌, ◌+◌, ◌*◌, ◌^◌, ◌%◌, ◌==◌, ◌&&◌, ◌||◌, ℕ, zero, suc, Bool, true, false, cond, ltb, not, List, [], ◌∷◌, ◌++◌, length, Option, Some, None, Ok, refl, sym, ap, subst, ◌∙◌, arith}
+use Rattle.std.specs.List.{AllByRecursion, slice_get}
 use Rattle.std.specs.Bool.{Decides}
 use Rattle.std.proofs.lemmas.Bool.{le-ltb, ltb-true, lt-ltb}
-use Rattle.std.proofs.lemmas.Bool.Decides.{Decides-and, Decides-ltb, Decides-or}
+use Rattle.std.proofs.lemmas.Bool.Decides.{Decides-and, Decides-or}
 use Rattle.byteorder.specs.Endian.{big_bytes, big_number}
-use Rattle.crgc_bytes.specs.Place.{IsBytes, Place, after}
+use Rattle.crgc_bytes.specs.Place.{Place, after}
 use Rattle.crgc_ids.specs.Actor.{Actor, IsActorBelow, IsPairBelow, is_actor_below, same_actor}
-use Rattle.crgc_ids.specs.Members.{IsAmong, IsPart}
+use Rattle.crgc_ids.specs.Members.{IsAmong}
 use Rattle.crgc_ids.specs.Rising.{IsRising}
 use Rattle.crgc_ids.specs.declared.rising.ActorCount.{ActorCount}
 use Rattle.crgc_ids.specs.declared.rising.PairCount.{PairCount}
 use Rattle.crgc_ids.proofs.ActorLaws.{IsActorBelow-trans, IsPairBelow-trans, is_actor_below-decides, same_actor-decides}
-use Rattle.crgc_ids.proofs.MembersLaws.{all-member}
 use Rattle.history_model.specs.declared.records.StateRow.{StateRow}
-use Rattle.wire_grammar.specs.declared.fault.WireFault.{WireFault}
 use Rattle.wire_grammar.specs.declared.fault.WireKind.{WireKind}
-use Rattle.wire_grammar.specs.declared.fault.WireKind.TheVariants.{Flags, Index, Narrow, Node, Order, Short, Zero}
-use Rattle.wire_grammar.specs.Fields.{◌>>=◌, Reader, both, checked, fault, is_above, made, number_at, rows_at}
-use Rattle.wire_grammar.specs.Named.{index_of, is_wide}
+use Rattle.wire_grammar.specs.declared.fault.WireKind.TheVariants.{Flags, Narrow, Node, Order, Short, Zero}
+use Rattle.wire_grammar.specs.Fields.{◌>>=◌, Reader, both, checked, fault, is_above, number_at, rows_at}
+use Rattle.wire_grammar.specs.Named.{index_of}
 use Rattle.wire_grammar.specs.Spelling.{actor_text, count_text, counts_text, flags, index_len, index_text, pair_text, pairs_text, state_text, states_text, table_text}
 use Rattle.wire_grammar.specs.Reading.{actor_at, actor_of, count_at, count_row, counts_at, flags_at, index_at, is_pair_below, key_at, node_at, pair_key_at, pair_row, pairs_at, serial_at, state_row, states_at, table_at, table_len_at, table_row}
-use Rattle.wire_grammar.specs.Spellable.{AreRows, IsActor, IsCount}
+use Rattle.wire_grammar.specs.Spellable.{IsActor, IsCount}
 use Rattle.wire_grammar.proofs.Readers.{AreChained, IsReader, Moves, bind_ok, both-reader, checked-reader, guard_ok, made-reader, number-reader, ok_is, section-reader}
 use Rattle.wire_grammar.proofs.Tables.{IsTable, index_of-slice_get, slice_get-index_of, slice_get-member}
 

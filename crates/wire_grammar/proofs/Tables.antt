@@ -1,8 +1,6 @@
 -- Tables: rising lists of actors, the one with given members, and the index of each member.
-use Rattle.std.proofs.Common.{◌≡◌, ◌⊎◌, ◌<◌, ◌≤◌, ◌+◌, ◌*◌, ℕ, zero, suc, Bool, true, false, cond, List, [], ◌∷◌, ◌++◌, length, Option, Some, None, refl, sym, ap, subst, ◌∙◌, inl, inr, arith}
+use Rattle.std.proofs.Common.{◌≡◌, ◌⊎◌, ◌≤◌, ℕ, zero, suc, Bool, true, false, List, [], ◌∷◌, length, Some, refl, sym, ap, subst, ◌∙◌, inl, inr, arith}
 use Rattle.std.specs.List.{AllByRecursion, slice_get}
-use Rattle.std.specs.Bool.{Decides}
-use Rattle.std.proofs.lemmas.Bool.Decides.{not_from_Decides}
 use Rattle.crgc_ids.specs.Actor.{Actor, IsActorBelow, is_actor_below, same_actor}
 use Rattle.crgc_ids.specs.Members.{IsAmong, IsPart}
 use Rattle.crgc_ids.specs.Rising.{IsRising}

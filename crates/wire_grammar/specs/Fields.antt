@@ -1,10 +1,10 @@
 -- Readers of fields: each gives a value and the place after it, or the first fault.
-use Rattle.std.specs.Prelude.{ℕ, zero, suc, Bool, true, false, List, [], ◌∷◌, length, Option, Some, None, Result, Ok, Err, nat_lt, if◌then◌else◌}
+use Rattle.std.specs.Prelude.{ℕ, zero, suc, Bool, true, List, [], ◌∷◌, length, Option, Some, None, Result, Ok, Err, nat_lt, if◌then◌else◌}
 use Rattle.byteorder.specs.Endian.{big_number}
 use Rattle.crgc_bytes.specs.Place.{Place, after}
 use Rattle.wire_grammar.specs.declared.fault.WireFault.{WireFault}
 use Rattle.wire_grammar.specs.declared.fault.WireKind.{WireKind}
-use Rattle.wire_grammar.specs.declared.fault.WireKind.TheVariants.{Short, Order}
+use Rattle.wire_grammar.specs.declared.fault.WireKind.TheVariants.{Short}
 
 -- a reader of values of X
 abbrev pub Reader : Type 0 → Type 0

@@ -1,5 +1,5 @@
 -- The actors that a bulletin names, and the table of them.
-use Rattle.std.specs.Prelude.{ℕ, zero, suc, Bool, ◌||◌, List, [], ◌∷◌, ◌++◌, length, nat_lt, if◌then◌else◌}
+use Rattle.std.specs.Prelude.{ℕ, suc, Bool, List, [], ◌∷◌, ◌++◌, length, nat_lt, if◌then◌else◌}
 use Rattle.std.specs.List.{flat_map}
 use Rattle.crgc_ids.specs.Actor.{Actor, is_actor_below, same_actor}
 use Rattle.crgc_ids.specs.declared.rising.ActorCount.{ActorCount}
