@@ -1,12 +1,11 @@
 -- Whole bulletins that are read part by part, and then searched for an unnamed actor.
-use Rattle.std.proofs.Common.{◌≡◌, ℕ, ◌+◌, ◌*◌, ◌++◌, Bool, List, drop, length, Option, Some, None, Result, Ok, Err, refl, sym, ap, subst, ◌∙◌, arith}
+use Rattle.std.proofs.Common.{◌≡◌, ℕ, ◌+◌, ◌*◌, ◌++◌, Bool, List, drop, length, Option, Result, Ok, Err, sym, ap, ◌∙◌, arith}
 use Rattle.std.specs.Prelude.{IfOk}
 use Rattle.crgc_bytes.specs.Place.{IsBytes, Place}
 use Rattle.crgc_ids.specs.Actor.{Actor}
 use Rattle.history_model.specs.declared.records.Bulletin.{Bulletin}
 use Rattle.history_model.specs.declared.records.Delta.{Delta}
 use Rattle.history_model.specs.declared.records.Window.{Window}
-use Rattle.wire_grammar.specs.declared.fault.WireFault.{WireFault}
 use Rattle.wire_grammar.specs.Named.{delta_names, table_of, window_names}
 use Rattle.wire_grammar.specs.Reading.{all_named, counts_at, delta_at, link_at, node_at, pairs_at, reading, states_at, table_at, unnamed, window_at}
 use Rattle.wire_grammar.specs.Spelling.{index_len, spelled}

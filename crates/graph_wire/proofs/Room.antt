@@ -1,5 +1,5 @@
 -- The numbers of rows and of a table's actors have room in the bulletin's form.
-use Rattle.std.proofs.Common.{◌≡◌, ◌<◌, ◌≤◌, ◌^◌, ◌⊎◌, ℕ, Bool, ltb, List, ◌++◌, length, refl, sym, ap, subst, ◌∙◌, inl, inr, arith}
+use Rattle.std.proofs.Common.{◌≡◌, ◌⊎◌, ℕ, Bool, ltb, List, ◌++◌, length, sym, ap, subst, ◌∙◌, inl, inr, arith}
 use Rattle.std.specs.List.{AllByRecursion}
 use Rattle.crgc_ids.specs.Actor.{Actor}
 use Rattle.crgc_ids.specs.Members.{IsAmong, IsPart}
@@ -11,7 +11,6 @@ use Rattle.history_model.specs.declared.records.Delta.{Delta}
 use Rattle.history_model.specs.declared.records.StateRow.{StateRow}
 use Rattle.history_model.specs.declared.records.Window.{Window}
 use Rattle.wire_grammar.specs.Named.{count_names, delta_names, is_wide, names_of, pair_names, state_names, table_of, window_names}
-use Rattle.wire_grammar.specs.Spelling.{index_len}
 use Rattle.wire_grammar.specs.Spellable.{IsActor, IsSpellable}
 use Rattle.wire_grammar.proofs.Names.{all-from_each, each-left, each-right, rows_length, table_short}
 use Rattle.wire_grammar.proofs.Tables.{table_of-has, table_of-only, table_of-rises}

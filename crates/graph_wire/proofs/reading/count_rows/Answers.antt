@@ -2,7 +2,7 @@ use Rattle.std.proofs.Common.{None}
 use Rattle.std.proofs.lemmas.Result.{err_from_is_err_and}
 use Rattle.wire_grammar.specs.Fields.{rows_at}
 use Rattle.wire_grammar.specs.Reading.{count_row}
-use Rattle.graph_wire.proofs.Loops.{ends, goes_on, is_done, count_key, counts-none, counts-push, counts-rise}
+use Rattle.graph_wire.proofs.Loops.{ends, goes_on, is_done, count_key, counts-push, counts-rise}
 use Rattle.graph_wire.proofs.reading.count_rows.Goals as goal
 
 pub returns-in_err-row : goal.returns-in_err-row

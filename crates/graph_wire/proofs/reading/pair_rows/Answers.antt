@@ -2,7 +2,7 @@ use Rattle.std.proofs.Common.{None}
 use Rattle.std.proofs.lemmas.Result.{err_from_is_err_and}
 use Rattle.wire_grammar.specs.Fields.{rows_at}
 use Rattle.wire_grammar.specs.Reading.{pair_row}
-use Rattle.graph_wire.proofs.Loops.{ends, goes_on, is_done, pair_key, pairs-none, pairs-push, pairs-rise}
+use Rattle.graph_wire.proofs.Loops.{ends, goes_on, is_done, pair_key, pairs-push, pairs-rise}
 use Rattle.graph_wire.proofs.reading.pair_rows.Goals as goal
 
 pub returns-in_err-row : goal.returns-in_err-row
