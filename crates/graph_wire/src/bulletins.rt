@@ -1,11 +1,11 @@
 //! Bytes to whole bulletins.
-ghost use Rattle.std.specs.Prelude.{◌≡◌, ◌<◌, ◌≤◌, ◌+◌, ◌*◌, ◌^◌, ◌++◌, ℕ, List, length, drop, Ok, IfOk, Bool};
+ghost use Rattle.std.specs.Prelude.{◌≡◌, ◌<◌, ◌+◌, ◌*◌, ◌^◌, ◌++◌, ℕ, List, length, drop, Ok, IfOk};
 ghost use Rattle.std.specs.List.{list_any};
 ghost use Rattle.crgc_ids.specs.Actor.{IsActorBelow, same_actor};
 ghost use Rattle.crgc_ids.specs.Rising.{IsRising};
 ghost use Rattle.history_model.specs.declared.records.Bulletin.{Bulletin};
 ghost use Rattle.wire_grammar.specs.Reading.{unnamed, delta_at, window_at, link_at, magic_at, kind_at, body_at, bulletin_at, reading};
-ghost use Rattle.wire_grammar.specs.Spelling.{magic, spelled};
+ghost use Rattle.wire_grammar.specs.Spelling.{spelled};
 ghost use Rattle.wire_grammar.specs.Spellable.{IsSpellable};
 ghost use Rattle.graph_wire.specs.Gives.{Gives, GivesPrefix};
 

@@ -1,5 +1,5 @@
 //! The actors that a bulletin names, and the table of them.
-ghost use Rattle.std.specs.Prelude.{◌≡◌, ◌<◌, [], ◌∷◌, ◌++◌, OnOk, IfOk};
+ghost use Rattle.std.specs.Prelude.{◌≡◌, [], ◌∷◌, ◌++◌, OnOk, IfOk};
 ghost use Rattle.std.specs.List.{AllByRecursion};
 ghost use Rattle.wire_grammar.specs.Named.{state_names, count_names, pair_names, delta_names, window_names, names_of, table_of};
 ghost use Rattle.wire_grammar.specs.Spellable.{IsActor};

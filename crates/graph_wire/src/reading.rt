@@ -1,11 +1,10 @@
 //! Bytes to bulletins.
-ghost use Rattle.std.specs.Prelude.{◌≡◌, ◌<◌, ◌^◌, ◌++◌, ◌∷◌, [], length, true, IsTrue, OnOk, IfOk, None, Some};
+ghost use Rattle.std.specs.Prelude.{◌≡◌, ◌<◌, true, IfOk, None};
 ghost use Rattle.crgc_ids.specs.Actor.{is_actor_below};
-ghost use Rattle.crgc_ids.specs.Members.{IsAmong};
 ghost use Rattle.wire_grammar.specs.Fields.{is_above, number_at, rows_at};
 ghost use Rattle.wire_grammar.specs.Spelling.{index_len};
-ghost use Rattle.wire_grammar.specs.Reading.{node_at, serial_at, actor_at, table_row, table_len_at, table_at, index_at, flags_at, count_at, key_at, is_pair_below, pair_key_at, state_row, count_row, pair_row, states_at, counts_at, pairs_at, link_at, magic_at, kind_at};
-ghost use Rattle.graph_wire.specs.Gives.{Gives, GivesItems, with_front};
+ghost use Rattle.wire_grammar.specs.Reading.{node_at, actor_at, table_row, table_len_at, table_at, index_at, flags_at, count_at, key_at, is_pair_below, pair_key_at, state_row, count_row, pair_row, states_at, counts_at, pairs_at};
+ghost use Rattle.graph_wire.specs.Gives.{Gives, GivesItems};
 
 use crate::fault::{ReadFault, fault};
 use crgc_bytes::Cursor;

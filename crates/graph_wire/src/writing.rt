@@ -1,11 +1,10 @@
 //! Bulletins to bytes.
-ghost use Rattle.std.specs.Prelude.{◌≡◌, ◌≢◌, ◌<◌, ◌≤◌, ◌^◌, ◌++◌, [], length, IsTrue, OnOk, IfOk};
-ghost use Rattle.std.specs.List.{flat_map};
+ghost use Rattle.std.specs.Prelude.{◌≡◌, ◌<◌, ◌≤◌, ◌^◌, ◌++◌, length, OnOk, IfOk};
 ghost use Rattle.byteorder.specs.Endian.{big_bytes};
 ghost use Rattle.crgc_ids.specs.Actor.{IsActorBelow};
 ghost use Rattle.crgc_ids.specs.Rising.{IsRising};
-ghost use Rattle.wire_grammar.specs.Named.{index_of, table_of, names_of, is_wide};
-ghost use Rattle.wire_grammar.specs.Spelling.{index_len, magic, flags, actor_text, index_text, state_text, count_text, pair_text, table_text, states_text, counts_text, pairs_text, head_text, delta_text, window_text, text_over, spelled};
+ghost use Rattle.wire_grammar.specs.Named.{index_of};
+ghost use Rattle.wire_grammar.specs.Spelling.{index_len, actor_text, index_text, state_text, count_text, pair_text, table_text, states_text, counts_text, pairs_text, head_text, delta_text, window_text, spelled};
 ghost use Rattle.graph_wire.specs.Writable.{IsWritable, DeltaHasRoom, WindowHasRoom};
 
 use crate::names::table;
