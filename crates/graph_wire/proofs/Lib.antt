@@ -1,0 +1,4 @@
+pub mod Sorting
+pub mod Room
+pub mod Loops
+pub mod Ends

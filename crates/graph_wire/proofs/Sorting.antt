@@ -1,0 +1,234 @@
+-- Names that are sorted, each kept once, are their table.
+use Rattle.std.proofs.Common.{◌≡◌, ◌<◌, ◌≤◌, ◌+◌, ◌*◌, ℕ, zero, suc, Bool, true, false, cond, eqb, ltb, List, [], ◌∷◌, length, get_or, drop, drop-cons, add-one, Some, None, Result, Ok, Err, refl, sym, ap, subst, ◌∙◌, inl, inr, arith}
+use Rattle.std.specs.List.{AllByRecursion, Contains, HoldsAt, dedup, dedup_from, list_any, slice_get}
+use Rattle.std.specs.List.Sorted.{IsBinarySearchResult, IsNonDecreasingBy, IsPartitionPoint, IsPermutation, IsSearchInRange, IsSorted, IsStrictlySortedBy}
+use Rattle.std.specs.Cmp.{IsTotalOrder}
+use Rattle.std.specs.Ordering.{eq_by_cmp, is_eq, is_lt, nat_cmp, ordering_index, ordering_then}
+use Rattle.std.specs.declared.cmp.Ordering.{Ordering}
+use Rattle.std.specs.declared.cmp.Ordering.TheVariants.{Less, Equal, Greater}
+use Rattle.std.proofs.lemmas.Bool.{cases_lt, le-ltb, lt-ltb, ne_eqb}
+use Rattle.std.proofs.lemmas.Bool.Decides.{Decides-eqb}
+use Rattle.std.proofs.lemmas.Cmp.{nat_cmp_total, on_total, then_total}
+use Rattle.std.proofs.lemmas.List.{drop_all}
+use Rattle.std.specs.Result.{is_ok}
+use Rattle.std.proofs.lemmas.List.Kept.{IsStrictlySortedBy-dedup}
+use Rattle.std.proofs.lemmas.List.Sorted.{Contains-permutation, IsPermutation-sym, searchable_from_sorted}
+use Rattle.std.proofs.lemmas.Option.{slice_get-get_or}
+use Rattle.crgc_ids.specs.Actor.{Actor, IsActorBelow, is_actor_below, same_actor}
+use Rattle.crgc_ids.specs.Members.{IsAmong}
+use Rattle.crgc_ids.proofs.ActorLaws.{actor_cases, is_actor_below-decides, same_actor-decides}
+use Rattle.wire_grammar.specs.Named.{index_of, table_of}
+use Rattle.wire_grammar.specs.Reading.{unnamed}
+use Rattle.wire_grammar.proofs.Names.{among-decides}
+use Rattle.wire_grammar.proofs.Tables.{IsTable, index_of-slice_get, not_below_itself, slice_get-member, table-same, table_of-has, table_of-only, table_of-rises}
+
+-- the order of actors, as a comparison
+abbrev pub actor_cmp : Actor → Actor → Ordering
+actor_cmp a b = ordering_then (nat_cmp a.node b.node) (nat_cmp a.serial b.serial)
+
+pub actor_total : IsTotalOrder actor_cmp
+actor_total = then_total (on_total (λ (a : Actor). a.node) nat_cmp_total) (on_total (λ (a : Actor). a.serial) nat_cmp_total)
+
+less : (x y : ℕ) → x < y → nat_cmp x y ≡ Less
+less x y h = rw (lt-ltb x y h) refl
+
+same : (x y : ℕ) → x ≡ y → nat_cmp x y ≡ Equal
+same x y e = let one : ltb x y ≡ false = le-ltb x y (omega arith) in let two : eqb x y ≡ true = (Decides-eqb x y).1 e in rw (one, two) refl
+
+greater : (x y : ℕ) → y < x → nat_cmp x y ≡ Greater
+greater x y h = let one : ltb x y ≡ false = le-ltb x y (omega arith) in let two = ne_eqb x y (λ e. omega arith) in rw (one, two) refl
+
+pub cmp_below : (a b : Actor) → IsActorBelow a b → actor_cmp a b ≡ Less
+cmp_below a b (inl h) = rw (less a.node b.node h) refl
+cmp_below a b (inr h) = rw (same a.node b.node h.0, less a.serial b.serial h.1) refl
+
+pub cmp_same : (a b : Actor) → a ≡ b → actor_cmp a b ≡ Equal
+cmp_same a b e = rw (same a.node b.node (ap (λ c. c.node) e), same a.serial b.serial (ap (λ c. c.serial) e)) refl
+
+pub cmp_above : (a b : Actor) → IsActorBelow b a → actor_cmp a b ≡ Greater
+cmp_above a b (inl h) = rw (greater a.node b.node h) refl
+cmp_above a b (inr h) = rw (same a.node b.node (sym h.0), greater a.serial b.serial h.1) refl
+
+below_from_cmp : (a b : Actor) → actor_cmp a b ≡ Less → IsActorBelow a b
+below_from_cmp a b e =
+    elim (actor_cases a b) [
+      | inl h ↦ h
+      | inr other ↦ elim other [
+        | inl h ↦ (let bad = sym e ∙ cmp_same a b h in absurd cc)
+        | inr h ↦ (let bad = sym e ∙ cmp_above a b h in absurd cc)
+      ]
+    ]
+
+not_same : (a b : Actor) → (a ≡ b → ⊥) → same_actor a b ≡ false
+not_same a b h =
+    let P : Bool → Type 0 = λ v. same_actor a b ≡ v → same_actor a b ≡ false in
+    let cases : P (same_actor a b) = elim (same_actor a b) as P [ true ↦ (λ e. absurd (h ((same_actor-decides a b).0 e))) | false ↦ (λ e. e) ] in
+    cases refl
+
+ties : (a b : Actor) → same_actor a b ≡ eq_by_cmp actor_cmp a b
+ties a b =
+    elim (actor_cases a b) [
+      | inl h ↦ not_same a b (λ e. not_below_itself a (subst (IsActorBelow a) (sym e) h)) ∙ sym (ap is_eq (cmp_below a b h))
+      | inr other ↦ elim other [
+        | inl h ↦ (same_actor-decides a b).1 h ∙ sym (ap is_eq (cmp_same a b h))
+        | inr h ↦ not_same a b (λ e. not_below_itself a (subst (λ c. IsActorBelow c a) (sym e) h)) ∙ sym (ap is_eq (cmp_above a b h))
+      ]
+    ]
+
+all_below : (x : Actor) (xs : List Actor) → AllByRecursion (λ y. actor_cmp x y ≡ Less) xs → AllByRecursion (IsActorBelow x) xs
+all_below x [] h = tt
+all_below x (y ∷ ys) h = (below_from_cmp x y h.0, all_below x ys h.1)
+
+table-from_sorted : (xs : List Actor) → IsStrictlySortedBy actor_cmp xs → IsTable xs
+unfolding IsStrictlySortedBy
+table-from_sorted [] h = tt
+table-from_sorted (x ∷ xs) h = (all_below x xs h.0, table-from_sorted xs h.1)
+
+-- ---- members, by index and by cases
+
+among-from_contains : (xs : List Actor) (x : Actor) (k : ℕ) → k < length xs → get_or xs k x ≡ x → IsAmong x xs
+among-from_contains [] x k h e = absurd (omega arith)
+among-from_contains (y ∷ ys) x zero h e = inl (sym e)
+among-from_contains (y ∷ ys) x (suc k) h e = inr (among-from_contains ys x k (omega arith) e)
+
+contains-from_among : (xs : List Actor) (x : Actor) → IsAmong x xs → Contains xs x
+contains-from_among [] x h = absurd h
+contains-from_among (y ∷ ys) x (inl e) = (0, omega arith, sym e)
+contains-from_among (y ∷ ys) x (inr h) = let c = contains-from_among ys x h in (suc c.0, omega (arith, c.1), c.2)
+
+among-permutation : (xs ys : List Actor) (x : Actor) → IsPermutation xs ys → IsAmong x xs → IsAmong x ys
+among-permutation xs ys x p h = let c = Contains-permutation xs ys x p (contains-from_among xs x h) in among-from_contains ys x c.0 c.1 c.2
+
+kept : (z k : Actor) (xs : List Actor) → IsAmong z (k ∷ xs) → IsAmong z (dedup_from same_actor k xs)
+kept z k [] h = h
+kept z k (x ∷ xs) h =
+    let P : Bool → Type 0 = λ v. same_actor x k ≡ v → IsAmong z (cond v (dedup_from same_actor k xs) (k ∷ dedup_from same_actor x xs)) in
+    let cases : P (same_actor x k) = elim (same_actor x k) as P [
+      | true ↦ (λ e. kept z k xs (elim h [
+        | inl f ↦ inl f
+        | inr m ↦ elim m [ inl f ↦ inl (f ∙ (same_actor-decides x k).0 e) | inr n ↦ inr n ]
+      ]))
+      | false ↦ (λ e. elim h [ inl f ↦ inl f | inr m ↦ inr (kept z x xs m) ])
+    ] in
+    cases refl
+
+was_there : (z k : Actor) (xs : List Actor) → IsAmong z (dedup_from same_actor k xs) → IsAmong z (k ∷ xs)
+was_there z k [] h = h
+was_there z k (x ∷ xs) h =
+    let P : Bool → Type 0 = λ v. IsAmong z (cond v (dedup_from same_actor k xs) (k ∷ dedup_from same_actor x xs)) → IsAmong z (k ∷ x ∷ xs) in
+    let cases : P (same_actor x k) = elim (same_actor x k) as P [
+      | true ↦ (λ g. elim (was_there z k xs g) [ inl f ↦ inl f | inr m ↦ inr (inr m) ])
+      | false ↦ (λ g. elim g [ inl f ↦ inl f | inr m ↦ inr (was_there z x xs m) ])
+    ] in
+    cases h
+
+dedup-has : (z : Actor) (xs : List Actor) → IsAmong z xs → IsAmong z (dedup same_actor xs)
+dedup-has z [] h = h
+dedup-has z (x ∷ xs) h = kept z x xs h
+
+dedup-only : (z : Actor) (xs : List Actor) → IsAmong z (dedup same_actor xs) → IsAmong z xs
+dedup-only z [] h = h
+dedup-only z (x ∷ xs) h = was_there z x xs h
+
+-- names that are sorted, each kept once, are their table
+pub table-sorted : (names sorted : List Actor) → IsPermutation names sorted → IsSorted actor_cmp sorted → dedup same_actor sorted ≡ table_of names
+table-sorted names sorted moved up =
+    table-same (dedup same_actor sorted) (table_of names)
+    (table-from_sorted (dedup same_actor sorted) (IsStrictlySortedBy-dedup actor_total ties sorted up))
+    (table_of-rises names)
+    (λ x h. table_of-has x names (among-permutation sorted names x (IsPermutation-sym names sorted moved) (dedup-only x sorted h)))
+    (λ x h. dedup-has x sorted (among-permutation names sorted x moved (table_of-only x names h)))
+
+-- ---- the index that a search by order finds
+
+slice_get-from_equal : (table : List Actor) (a : Actor) (i : ℕ) → i < length table → actor_cmp (get_or table i a) a ≡ Equal → slice_get table i ≡ Some a
+slice_get-from_equal table a i lt e =
+    slice_get-get_or table i a lt
+    ∙ ap Some (elim (actor_cases (get_or table i a) a) [
+      | inl h ↦ (let bad = sym e ∙ cmp_below (get_or table i a) a h in absurd cc)
+      | inr other ↦ elim other [
+        | inl h ↦ h
+        | inr h ↦ (let bad = sym e ∙ cmp_above (get_or table i a) a h in absurd cc)
+      ]
+    ])
+
+above_from_cmp : (a b : Actor) → actor_cmp a b ≡ Greater → is_actor_below a b ≡ false
+above_from_cmp a b e =
+    let P : Bool → Type 0 = λ v. is_actor_below a b ≡ v → is_actor_below a b ≡ false in
+    let cases : P (is_actor_below a b) = elim (is_actor_below a b) as P [
+      | true ↦ (λ t. let bad = sym e ∙ cmp_below a b ((is_actor_below-decides a b).0 t) in absurd cc)
+      | false ↦ (λ f. f)
+    ] in
+    cases refl
+
+index-between : (table : List Actor) (a : Actor) (i : ℕ) → i ≤ length table
+    → ((k : ℕ) → k < i → actor_cmp (get_or table k a) a ≡ Less) → ((k : ℕ) → i ≤ k → k < length table → actor_cmp (get_or table k a) a ≡ Greater)
+    → index_of table a ≡ i
+unfolding index_of
+index-between [] a i lt less_ greater_ = omega arith
+index-between (b ∷ rest) a zero lt less_ greater_ = rw (above_from_cmp b a (greater_ 0 (omega arith) (omega arith))) refl
+index-between (b ∷ rest) a (suc i) lt less_ greater_ =
+    let one = (is_actor_below-decides b a).1 (below_from_cmp b a (less_ 0 (omega arith))) in
+    rw one (ap suc (index-between rest a i (omega arith) (λ k h. less_ (suc k) (omega arith)) (λ k h g. greater_ (suc k) (omega arith) (omega arith))))
+
+-- what a search in a table answers
+pub index-found : (table : List Actor) (a : Actor) (i : ℕ) → IsTable table → i < length table → HoldsAt (λ y. actor_cmp y a ≡ Equal) table i → i ≡ index_of table a
+index-found table a i t lt h = sym (index_of-slice_get table i a t (slice_get-from_equal table a i lt (h a)))
+
+sorted-at : (xs : List Actor) (k j : ℕ) (d : Actor) → IsTable xs → j ≡ suc k → j < length xs → is_lt (actor_cmp (get_or xs j d) (get_or xs k d)) ≡ false
+sorted-at [] k j d t e lt = absurd (omega arith)
+sorted-at (x ∷ xs) k zero d t e lt = absurd (omega arith)
+sorted-at (x ∷ []) k (suc j) d t e lt = absurd (omega arith)
+sorted-at (x ∷ y ∷ ys) zero (suc zero) d t e lt = ap is_lt (cmp_above y x t.0.0)
+sorted-at (x ∷ y ∷ ys) zero (suc (suc j)) d t e lt = absurd (omega arith)
+sorted-at (x ∷ y ∷ ys) (suc k) (suc j) d t e lt = sorted-at (y ∷ ys) k j d t.1 (omega arith) (omega arith)
+
+pub index-missed : (table : List Actor) (a : Actor) (i : ℕ) → IsTable table → i ≤ length table
+    → (IsNonDecreasingBy (λ y. ordering_index (actor_cmp y a)) table → IsPartitionPoint (λ y. actor_cmp y a ≡ Less) (λ y. actor_cmp y a ≡ Greater) table i)
+    → i ≡ index_of table a
+index-missed table a i t le h =
+    let up = searchable_from_sorted actor_total (λ (x : Actor). x) table a (λ k d low high. sorted-at table k (k + 1) d t (omega arith) high) in
+    let parts = h up in
+    sym (index-between table a i le (λ k lt. parts.0 k a (omega arith) lt) (λ k low high. parts.1 k a low high))
+
+-- a search in a table tells whether an actor is there
+pub search-tells : (table : List Actor) (a : Actor) (r : Result ℕ ℕ) → IsTable table → IsSearchInRange r (length table) → IsBinarySearchResult (λ y. actor_cmp y a) table r
+    → is_ok r ≡ list_any (same_actor a) table
+search-tells table a (Ok i) t lt h =
+    sym ((among-decides table a).1 (slice_get-member table i a (slice_get-from_equal table a i lt (h a))))
+search-tells table a (Err i) t le h =
+    let up = searchable_from_sorted actor_total (λ (x : Actor). x) table a (λ k d low high. sorted-at table k (k + 1) d t (omega arith) high) in
+    let parts = h up in
+    let P : Bool → Type 0 = λ v. list_any (same_actor a) table ≡ v → false ≡ v in
+    let cases : P (list_any (same_actor a) table) = elim (list_any (same_actor a) table) as P [
+      | true ↦ (λ e. let m = contains-from_among table a ((among-decides table a).0 e) in
+          let equal = cmp_same (get_or table m.0 a) a m.2 in
+          elim (cases_lt m.0 i) [
+            | inl lt ↦ (let bad = sym equal ∙ parts.0 m.0 a (omega arith) lt in absurd cc)
+            | inr ge ↦ (let bad = sym equal ∙ parts.1 m.0 a ge m.1 in absurd cc)
+          ])
+      | false ↦ (λ e. refl)
+    ] in
+    cases refl
+
+-- ---- the first actor that is not named, from an index on
+
+module _ (named table : List Actor) (first i : ℕ) where
+  pub unnamed-later : (a : Actor) → i < length table → a ≡ get_or table i a → list_any (same_actor a) named ≡ true → unnamed named (first + 5 * (i + 1)) (drop (i + 1) table) ≡ unnamed named (first + 5 * i) (drop i table)
+  unfolding unnamed
+  unnamed-later a lt e h =
+      let split : drop i table ≡ a ∷ drop (i + 1) table = rw (add-one, drop-cons table i a) (ap (λ x. x ∷ drop (suc i) table) (sym e)) in
+      let more : first + 5 * (i + 1) ≡ first + 5 * i + 5 = omega arith in
+      let one : unnamed named (first + 5 * i) (a ∷ drop (i + 1) table) ≡ unnamed named (first + 5 * i + 5) (drop (i + 1) table) = rw h refl in
+      ap (λ n. unnamed named n (drop (i + 1) table)) more ∙ sym one ∙ ap (unnamed named (first + 5 * i)) (sym split)
+
+  pub unnamed-here : (a : Actor) → i < length table → a ≡ get_or table i a → list_any (same_actor a) named ≡ false → unnamed named (first + 5 * i) (drop i table) ≡ Some (first + 5 * i)
+  unfolding unnamed
+  unnamed-here a lt e h =
+      let split : drop i table ≡ a ∷ drop (i + 1) table = rw (add-one, drop-cons table i a) (ap (λ x. x ∷ drop (suc i) table) (sym e)) in
+      let one : unnamed named (first + 5 * i) (a ∷ drop (i + 1) table) ≡ Some (first + 5 * i) = rw h refl in
+      ap (unnamed named (first + 5 * i)) split ∙ one
+
+  pub unnamed-end : length table ≤ i → unnamed named (first + 5 * i) (drop i table) ≡ None
+  unfolding unnamed
+  unnamed-end le = ap (unnamed named (first + 5 * i)) (drop_all i table le)

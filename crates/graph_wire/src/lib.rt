@@ -1,0 +1,18 @@
+//! Bulletins to bytes and back: each has one spelling, and bytes that spell none have one first fault.
+#![tactic(auto)]
+
+mod bulletins;
+mod fault;
+mod names;
+mod reading;
+mod writing;
+
+pub use bulletins::read;
+pub use fault::ReadFault;
+pub use wire_grammar::{WireFault, WireKind};
+pub use writing::write;
+
+#[cfg(test)]
+mod plain;
+#[cfg(test)]
+mod tests;

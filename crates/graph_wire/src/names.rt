@@ -1,0 +1,120 @@
+//! The actors that a bulletin names, and the table of them.
+ghost use Rattle.std.specs.Prelude.{◌≡◌, [], ◌∷◌, ◌++◌, OnOk, IfOk};
+ghost use Rattle.std.specs.List.{AllByRecursion};
+ghost use Rattle.wire_grammar.specs.Named.{state_names, count_names, pair_names, delta_names, window_names, names_of, table_of};
+ghost use Rattle.wire_grammar.specs.Spellable.{IsActor};
+ghost use Rattle.graph_wire.specs.Rises.{KeysRise, DeltaRises, WindowRises};
+
+use crgc_ids::{ActorCount, ActorId, NoMemory, PairCount};
+use history_model::{Bulletin, Delta, StateRow, Window};
+use std::alloc::Global;
+
+/// Puts the actor last.
+fn push_name(names: &mut Vec<ActorId>, actor: ActorId) -> Result<(), NoMemory>
+    ensures ok { OnOk result (names.new.items ≡ names.old.items ++ actor ∷ []) }
+    ensures actor { IsActor actor }
+{
+    // An actor's readers say in what range its numbers are.
+    let _ = actor.node().get();
+    let _ = actor.serial();
+    match names.push(actor) {
+        Ok(()) => Ok(()),
+        Err(_) => Err(NoMemory),
+    }
+}
+
+fn push_states(names: &mut Vec<ActorId>, rows: &[StateRow]) -> Result<(), NoMemory>
+    ensures ok { OnOk result (names.new.items ≡ names.old.items ++ state_names rows.now) }
+    ensures actors { OnOk result (AllByRecursion IsActor (state_names rows.now)) }
+{
+    for row in rows {
+        push_name(names, row.actor)?;
+    }
+    Ok(())
+}
+
+fn push_counts(names: &mut Vec<ActorId>, rows: &[ActorCount]) -> Result<(), NoMemory>
+    ensures ok { OnOk result (names.new.items ≡ names.old.items ++ count_names rows.now) }
+    ensures actors { OnOk result (AllByRecursion IsActor (count_names rows.now)) }
+{
+    for row in rows {
+        push_name(names, row.actor)?;
+    }
+    Ok(())
+}
+
+fn push_pairs(names: &mut Vec<ActorId>, rows: &[PairCount]) -> Result<(), NoMemory>
+    ensures ok { OnOk result (names.new.items ≡ names.old.items ++ pair_names rows.now) }
+    ensures actors { OnOk result (AllByRecursion IsActor (pair_names rows.now)) }
+{
+    for row in rows {
+        push_name(names, row.owner)?;
+        push_name(names, row.target)?;
+    }
+    Ok(())
+}
+
+fn push_delta(names: &mut Vec<ActorId>, d: &Delta) -> Result<(), NoMemory>
+    ensures ok { OnOk result (names.new.items ≡ names.old.items ++ delta_names d.now) }
+    ensures actors { OnOk result (AllByRecursion IsActor (delta_names d.now)) }
+    ensures rises { OnOk result (DeltaRises d.now) }
+{
+    push_states(names, d.states.as_slice())?;
+    push_counts(names, d.sent.as_slice())?;
+    push_pairs(names, d.created.as_slice())?;
+    push_pairs(names, d.released.as_slice())
+}
+
+fn push_window(names: &mut Vec<ActorId>, w: &Window) -> Result<(), NoMemory>
+    ensures ok { OnOk result (names.new.items ≡ names.old.items ++ window_names w.now) }
+    ensures actors { OnOk result (AllByRecursion IsActor (window_names w.now)) }
+    ensures rises { OnOk result (WindowRises w.now) }
+{
+    push_counts(names, w.messages.as_slice())?;
+    push_pairs(names, w.carried.as_slice())
+}
+
+/// The actors of a list, rising, each once. Time in proportion to n log n.
+fn sorted(names: Vec<ActorId>) -> Vec<ActorId>
+    ensures { result.items ≡ table_of names.items }
+{
+    let mut table = names;
+    table.sort_unstable();
+    table.dedup();
+    table
+}
+
+/// The table of the actors that a Delta names.
+pub fn delta_table(alloc: Global, d: &Delta) -> Result<Vec<ActorId>, NoMemory>
+    ensures value { IfOk result (λ v. v.items ≡ table_of (delta_names d.now)) }
+    ensures actors { OnOk result (AllByRecursion IsActor (delta_names d.now)) }
+    ensures rises { OnOk result (DeltaRises d.now) }
+{
+    let mut names = Vec::new(alloc);
+    push_delta(&mut names, d)?;
+    Ok(sorted(names))
+}
+
+/// The table of the actors that a Window or a Final names.
+pub fn window_table(alloc: Global, w: &Window) -> Result<Vec<ActorId>, NoMemory>
+    ensures value { IfOk result (λ v. v.items ≡ table_of (window_names w.now)) }
+    ensures actors { OnOk result (AllByRecursion IsActor (window_names w.now)) }
+    ensures rises { OnOk result (WindowRises w.now) }
+{
+    let mut names = Vec::new(alloc);
+    push_window(&mut names, w)?;
+    Ok(sorted(names))
+}
+
+/// The table of the actors that a bulletin names: rising, each once. Time in proportion to n log n for n names.
+pub fn table(alloc: Global, b: &Bulletin) -> Result<Vec<ActorId>, NoMemory>
+    ensures value { IfOk result (λ v. v.items ≡ table_of (names_of b.now)) }
+    ensures actors { OnOk result (AllByRecursion IsActor (names_of b.now)) }
+    ensures rises { OnOk result (KeysRise b.now) }
+{
+    match b {
+        Bulletin::Delta(d) => delta_table(alloc, d),
+        Bulletin::Window(w) => window_table(alloc, w),
+        Bulletin::Final(w) => window_table(alloc, w),
+    }
+}

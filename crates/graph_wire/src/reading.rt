@@ -1,0 +1,384 @@
+//! Bytes to bulletins.
+ghost use Rattle.std.specs.Prelude.{◌≡◌, ◌<◌, true, IfOk, None};
+ghost use Rattle.crgc_ids.specs.Actor.{is_actor_below};
+ghost use Rattle.wire_grammar.specs.Fields.{is_above, number_at, rows_at};
+ghost use Rattle.wire_grammar.specs.Spelling.{index_len};
+ghost use Rattle.wire_grammar.specs.Reading.{node_at, actor_at, table_row, table_len_at, table_at, index_at, flags_at, count_at, key_at, is_pair_below, pair_key_at, state_row, count_row, pair_row, states_at, counts_at, pairs_at};
+ghost use Rattle.graph_wire.specs.Gives.{Gives, GivesItems};
+
+use crate::fault::{ReadFault, fault};
+use crgc_bytes::Cursor;
+use crgc_ids::{ActorCount, ActorCounts, ActorId, NodeId, PairCount, PairCounts};
+use history_model::{StateRow, StateRows};
+use std::alloc::Global;
+use wire_grammar::WireKind;
+
+pub fn u8_at(cursor: &mut Cursor<'_>) -> Result<u8, ReadFault>
+    ensures { Gives cursor.new result (number_at 1 cursor.old) }
+{
+    let offset = cursor.offset();
+    match cursor.take_u8() {
+        Some(number) => Ok(number),
+        None => Err(fault(WireKind::Short, offset)),
+    }
+}
+
+fn u16_at(cursor: &mut Cursor<'_>) -> Result<u16, ReadFault>
+    ensures { Gives cursor.new result (number_at 2 cursor.old) }
+{
+    let offset = cursor.offset();
+    match cursor.take_u16() {
+        Some(number) => Ok(number),
+        None => Err(fault(WireKind::Short, offset)),
+    }
+}
+
+pub fn u32_at(cursor: &mut Cursor<'_>) -> Result<u32, ReadFault>
+    ensures { Gives cursor.new result (number_at 4 cursor.old) }
+{
+    let offset = cursor.offset();
+    match cursor.take_u32() {
+        Some(number) => Ok(number),
+        None => Err(fault(WireKind::Short, offset)),
+    }
+}
+
+/// A number in two bytes, or in four in the wide form.
+fn len_at(cursor: &mut Cursor<'_>, wide: bool) -> Result<u32, ReadFault>
+    ensures { Gives cursor.new result (number_at (index_len wide) cursor.old) }
+{
+    if wide {
+        u32_at(cursor)
+    } else {
+        Ok(u32::from(u16_at(cursor)?))
+    }
+}
+
+pub fn node_at(cursor: &mut Cursor<'_>) -> Result<NodeId, ReadFault>
+    ensures { Gives cursor.new result (node_at cursor.old) }
+{
+    let offset = cursor.offset();
+    let number = u8_at(cursor)?;
+    match NodeId::new(number) {
+        Some(node) => Ok(node),
+        None => Err(fault(WireKind::Node, offset)),
+    }
+}
+
+fn actor_at(cursor: &mut Cursor<'_>) -> Result<ActorId, ReadFault>
+    ensures { Gives cursor.new result (actor_at cursor.old) }
+{
+    let node = node_at(cursor)?;
+    let offset = cursor.offset();
+    let serial = u32_at(cursor)?;
+    match ActorId::new(node, serial) {
+        Some(actor) => Ok(actor),
+        None => Err(fault(WireKind::Node, offset)),
+    }
+}
+
+/// Whether the actor is above the one before it.
+fn is_above(last: Option<ActorId>, actor: ActorId) -> bool
+    ensures { result ≡ is_above is_actor_below last actor }
+{
+    match last {
+        None => true,
+        Some(last) => last < actor,
+    }
+}
+
+fn table_row(cursor: &mut Cursor<'_>, last: Option<ActorId>) -> Result<ActorId, ReadFault>
+    ensures { Gives cursor.new result (table_row last cursor.old) }
+{
+    let offset = cursor.offset();
+    let actor = actor_at(cursor)?;
+    if !is_above(last, actor) {
+        return Err(fault(WireKind::Order, offset));
+    }
+    Ok(actor)
+}
+
+fn table_len(cursor: &mut Cursor<'_>, wide: bool) -> Result<u32, ReadFault>
+    ensures { Gives cursor.new result (table_len_at wide cursor.old) }
+{
+    let offset = cursor.offset();
+    let count = len_at(cursor, wide)?;
+    if wide && count <= 65_535 {
+        return Err(fault(WireKind::Narrow, offset));
+    }
+    Ok(count)
+}
+
+fn table_rows(alloc: Global, cursor: &mut Cursor<'_>, count: u32) -> Result<Vec<ActorId>, ReadFault>
+    ensures { GivesItems cursor.new result (rows_at (λ a. a) table_row count None cursor.old) }
+{
+    let mut table = Vec::new(alloc);
+    let mut last = None;
+    for i in 0..count {
+        let actor = table_row(cursor, last)?;
+        table.push(actor)?;
+        last = Some(actor);
+    }
+    Ok(table)
+}
+
+/// The rising table of a bulletin's actors.
+#[tactic(auto, unfolding(wire_grammar::specs::Reading::table_at))]
+pub fn table_at(
+    alloc: Global,
+    cursor: &mut Cursor<'_>,
+    wide: bool,
+) -> Result<Vec<ActorId>, ReadFault>
+    ensures { GivesItems cursor.new result (table_at wide cursor.old) }
+{
+    let count = table_len(cursor, wide)?;
+    table_rows(alloc, cursor, count)
+}
+
+/// The table's actor at the index that is read.
+#[tactic(auto, unfolding(wire_grammar::specs::Reading::index_at))]
+fn index_at(cursor: &mut Cursor<'_>, wide: bool, table: &[ActorId]) -> Result<ActorId, ReadFault>
+    ensures { Gives cursor.new result (index_at wide table.now cursor.old) }
+{
+    let offset = cursor.offset();
+    let index = len_at(cursor, wide)?;
+    match table.get(index as usize) {
+        Some(actor) => Ok(*actor),
+        None => Err(fault(WireKind::Index, offset)),
+    }
+}
+
+/// The actor of a row, above the one of the row before it.
+fn key_at(
+    cursor: &mut Cursor<'_>,
+    wide: bool,
+    table: &[ActorId],
+    last: Option<ActorId>,
+) -> Result<ActorId, ReadFault>
+    ensures gives { Gives cursor.new result (key_at wide table.now last cursor.old) }
+    ensures above { IfOk result (λ a. is_above is_actor_below last a ≡ true) }
+{
+    let offset = cursor.offset();
+    let actor = index_at(cursor, wide, table)?;
+    if !is_above(last, actor) {
+        return Err(fault(WireKind::Order, offset));
+    }
+    Ok(actor)
+}
+
+fn is_pair_below(first: (ActorId, ActorId), second: (ActorId, ActorId)) -> bool
+    ensures { result ≡ is_pair_below first second }
+{
+    first.0 < second.0 || (first.0 == second.0 && first.1 < second.1)
+}
+
+/// Whether the pair is above the one before it.
+fn is_pair_above(last: Option<(ActorId, ActorId)>, pair: (ActorId, ActorId)) -> bool
+    ensures { result ≡ is_above is_pair_below last pair }
+{
+    match last {
+        None => true,
+        Some(last) => is_pair_below(last, pair),
+    }
+}
+
+/// The owner and the target of a row, above those of the row before it.
+fn pair_key_at(
+    cursor: &mut Cursor<'_>,
+    wide: bool,
+    table: &[ActorId],
+    last: Option<(ActorId, ActorId)>,
+) -> Result<(ActorId, ActorId), ReadFault>
+    ensures gives { Gives cursor.new result (pair_key_at wide table.now last cursor.old) }
+    ensures above { IfOk result (λ p. is_above is_pair_below last p ≡ true) }
+{
+    let offset = cursor.offset();
+    let owner = index_at(cursor, wide, table)?;
+    let target = index_at(cursor, wide, table)?;
+    if !is_pair_above(last, (owner, target)) {
+        return Err(fault(WireKind::Order, offset));
+    }
+    Ok((owner, target))
+}
+
+fn flags_at(cursor: &mut Cursor<'_>) -> Result<u8, ReadFault>
+    ensures { Gives cursor.new result (flags_at cursor.old) }
+{
+    let offset = cursor.offset();
+    let flags = u8_at(cursor)?;
+    if flags > 3 {
+        return Err(fault(WireKind::Flags, offset));
+    }
+    Ok(flags)
+}
+
+fn count_at(cursor: &mut Cursor<'_>) -> Result<u32, ReadFault>
+    ensures gives { Gives cursor.new result (count_at cursor.old) }
+    ensures stands { IfOk result (λ n. 0 < n) }
+{
+    let offset = cursor.offset();
+    let count = u32_at(cursor)?;
+    if count == 0 {
+        return Err(fault(WireKind::Zero, offset));
+    }
+    Ok(count)
+}
+
+#[tactic(auto, unfolding(wire_grammar::specs::Reading::state_row))]
+fn state_row(
+    cursor: &mut Cursor<'_>,
+    wide: bool,
+    table: &[ActorId],
+    last: Option<ActorId>,
+) -> Result<StateRow, ReadFault>
+    ensures gives { Gives cursor.new result (state_row wide table.now last cursor.old) }
+    ensures above { IfOk result (λ r. is_above is_actor_below last r.actor ≡ true) }
+{
+    let actor = key_at(cursor, wide, table, last)?;
+    let received = u32_at(cursor)?;
+    let flags = flags_at(cursor)?;
+    Ok(StateRow {
+        actor,
+        received,
+        busy: flags % 2 == 1,
+        root: flags > 1,
+    })
+}
+
+#[tactic(auto, unfolding(wire_grammar::specs::Reading::count_row))]
+fn count_row(
+    cursor: &mut Cursor<'_>,
+    wide: bool,
+    table: &[ActorId],
+    last: Option<ActorId>,
+) -> Result<ActorCount, ReadFault>
+    ensures gives { Gives cursor.new result (count_row wide table.now last cursor.old) }
+    ensures above { IfOk result (λ r. is_above is_actor_below last r.actor ≡ true) }
+    ensures stands { IfOk result (λ r. 0 < r.count) }
+{
+    let actor = key_at(cursor, wide, table, last)?;
+    let count = count_at(cursor)?;
+    Ok(ActorCount { actor, count })
+}
+
+#[tactic(auto, unfolding(wire_grammar::specs::Reading::pair_row))]
+fn pair_row(
+    cursor: &mut Cursor<'_>,
+    wide: bool,
+    table: &[ActorId],
+    last: Option<(ActorId, ActorId)>,
+) -> Result<PairCount, ReadFault>
+    ensures gives { Gives cursor.new result (pair_row wide table.now last cursor.old) }
+    ensures above { IfOk result (λ r. is_above is_pair_below last (r.owner, r.target) ≡ true) }
+    ensures stands { IfOk result (λ r. 0 < r.count) }
+{
+    let (owner, target) = pair_key_at(cursor, wide, table, last)?;
+    let count = count_at(cursor)?;
+    Ok(PairCount {
+        owner,
+        target,
+        count,
+    })
+}
+
+fn state_rows(
+    alloc: Global,
+    cursor: &mut Cursor<'_>,
+    wide: bool,
+    table: &[ActorId],
+    count: u32,
+) -> Result<StateRows, ReadFault>
+    ensures { Gives cursor.new result (rows_at (λ r. r.actor) (state_row wide table.now) count None cursor.old) }
+{
+    let mut rows = StateRows::new(alloc);
+    let mut last = None;
+    for i in 0..count {
+        let row = state_row(cursor, wide, table, last)?;
+        let key = row.actor;
+        rows.push(row)?;
+        last = Some(key);
+    }
+    Ok(rows)
+}
+
+/// The states of a Delta.
+#[tactic(auto, unfolding(wire_grammar::specs::Reading::states_at))]
+pub fn states_at(
+    alloc: Global,
+    cursor: &mut Cursor<'_>,
+    wide: bool,
+    table: &[ActorId],
+) -> Result<StateRows, ReadFault>
+    ensures { Gives cursor.new result (states_at wide table.now cursor.old) }
+{
+    let count = len_at(cursor, wide)?;
+    state_rows(alloc, cursor, wide, table, count)
+}
+
+fn count_rows(
+    alloc: Global,
+    cursor: &mut Cursor<'_>,
+    wide: bool,
+    table: &[ActorId],
+    count: u32,
+) -> Result<ActorCounts, ReadFault>
+    ensures { Gives cursor.new result (rows_at (λ r. r.actor) (count_row wide table.now) count None cursor.old) }
+{
+    let mut rows = ActorCounts::new(alloc);
+    let mut last = None;
+    for i in 0..count {
+        let row = count_row(cursor, wide, table, last)?;
+        let key = row.actor;
+        rows.push(row)?;
+        last = Some(key);
+    }
+    Ok(rows)
+}
+
+/// A section of actor counts.
+#[tactic(auto, unfolding(wire_grammar::specs::Reading::counts_at))]
+pub fn counts_at(
+    alloc: Global,
+    cursor: &mut Cursor<'_>,
+    wide: bool,
+    table: &[ActorId],
+) -> Result<ActorCounts, ReadFault>
+    ensures { Gives cursor.new result (counts_at wide table.now cursor.old) }
+{
+    let count = len_at(cursor, wide)?;
+    count_rows(alloc, cursor, wide, table, count)
+}
+
+fn pair_rows(
+    alloc: Global,
+    cursor: &mut Cursor<'_>,
+    wide: bool,
+    table: &[ActorId],
+    count: u32,
+) -> Result<PairCounts, ReadFault>
+    ensures { Gives cursor.new result (rows_at (λ r. (r.owner, r.target)) (pair_row wide table.now) count None cursor.old) }
+{
+    let mut rows = PairCounts::new(alloc);
+    let mut last = None;
+    for i in 0..count {
+        let row = pair_row(cursor, wide, table, last)?;
+        let key = (row.owner, row.target);
+        rows.push(row)?;
+        last = Some(key);
+    }
+    Ok(rows)
+}
+
+/// A section of pair counts.
+#[tactic(auto, unfolding(wire_grammar::specs::Reading::pairs_at))]
+pub fn pairs_at(
+    alloc: Global,
+    cursor: &mut Cursor<'_>,
+    wide: bool,
+    table: &[ActorId],
+) -> Result<PairCounts, ReadFault>
+    ensures { Gives cursor.new result (pairs_at wide table.now cursor.old) }
+{
+    let count = u32_at(cursor)?;
+    pair_rows(alloc, cursor, wide, table, count)
+}
