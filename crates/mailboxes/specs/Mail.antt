@@ -1,9 +1,9 @@
--- The messages that wait for each actor, and the room that is kept for more.
+-- The messages that wait for each actor, each as the references that it carries, and the room that is reserved for more.
 use Rattle.std.specs.Prelude.{◌≡◌, ◌≢◌, ℕ, List, [], unwrap_or}
 use Rattle.std.specs.Map.{lookup}
 use Rattle.crgc_ids.specs.Actor.{Actor, same_actor}
 
--- the messages to one actor, the first first, each as the references that it carries; and for how many more messages room is reserved
+-- the messages that wait for one actor, the first in front, and for how many more room is reserved
 pub record Mailbox : Type 0 where
   pub mail : List (List Actor)
   pub room : ℕ

@@ -38,8 +38,9 @@ impl Mailboxes {
         }
     }
 
-    /// The message, which carries these references, goes last among those to the actor, into reserved room where there
-    /// is some. Never `NoMemory` there; after it all is as before. Logarithmic time in the number of actors, amortized.
+    /// A message that carries these references goes last among those to the actor. Where room is reserved for the actor
+    /// it takes some of that, and never answers `NoMemory`; after `NoMemory` all is as before. Logarithmic time in the
+    /// number of actors, amortized.
     pub fn put(&mut self, to: ActorId, refs: RefList) -> Result<(), NoMemory>
         ensures ok { OnOk result (ChangesOnly self.old self.new to (mail_of self.old to ++ refs ∷ []) (room_of self.old to - 1)) }
         ensures err { OnErr result (self.new ≡ self.old) }
@@ -55,8 +56,8 @@ impl Mailboxes {
         self.open(to, queue)
     }
 
-    /// Room for one more message to the actor is reserved; the messages are as before. After `NoMemory` all is as before.
-    /// Logarithmic time in the number of actors, amortized.
+    /// Room for one more message to the actor is reserved; the messages are as before. After `NoMemory` all is as
+    /// before. Logarithmic time in the number of actors, amortized.
     pub fn reserve(&mut self, to: ActorId) -> Result<(), NoMemory>
         ensures ok { OnOk result (ChangesOnly self.old self.new to (mail_of self.old to) (room_of self.old to + 1)) }
         ensures err { OnErr result (self.new ≡ self.old) }

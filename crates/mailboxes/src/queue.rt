@@ -38,8 +38,8 @@ impl Queue {
         }
     }
 
-    /// The message goes last, into reserved room where there is some. Never `NoMemory` there; after it all is as before.
-    /// Amortized constant time.
+    /// The message goes last. Where room is reserved it takes some of that, and never answers `NoMemory`; after
+    /// `NoMemory` all is as before. Amortized constant time.
     pub fn put(&mut self, message: RefList) -> Result<(), NoMemory>
         ensures ok { OnOk result (self.new ≡ record { mail = self.old.mail ++ message ∷ []; room = self.old.room - 1 }) }
         ensures err { OnErr result (self.new ≡ self.old) }
