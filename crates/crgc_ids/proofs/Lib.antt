@@ -5,3 +5,4 @@ pub mod LostNodesLaws
 pub mod MembersLaws
 pub mod NodesLaws
 pub mod RisingLaws
+pub mod ActorMaps

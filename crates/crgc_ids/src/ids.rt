@@ -4,7 +4,7 @@ ghost use Rattle.std.specs.Prelude.{◌≡◌, ◌<◌, ◌≤◌, ◌↔◌, If
 use std::marker::Model;
 
 /// A node of the cluster, numbered from 0 to 15. Contracts see its number.
-#[derive(Clone, Copy, PartialEq, Eq, PartialOrd, Ord, Debug)]
+#[derive(Clone, Copy, PartialEq, Eq, PartialOrd, Ord, Hash, Debug)]
 pub struct NodeId {
     number: u8,
 }
@@ -46,7 +46,7 @@ impl NodeId {
 
 /// An actor of the cluster: the node on which it lives, and its serial there, counted from 0 and below 262,144.
 /// Actors are ordered by node, then serial. Contracts see the record of the two numbers.
-#[derive(Clone, Copy, PartialEq, Eq, PartialOrd, Ord, Debug)]
+#[derive(Clone, Copy, PartialEq, Eq, PartialOrd, Ord, Hash, Debug)]
 pub struct ActorId {
     node: NodeId,
     serial: u32,

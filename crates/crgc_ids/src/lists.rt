@@ -34,6 +34,20 @@ impl<T> ItemList<T> {
         }
     }
 
+    /// The list of the items of a vector. Constant time, without memory.
+    pub fn from_vec(items: Vec<T>) -> ItemList<T>
+        ensures { result ≡ items.items }
+    {
+        ItemList { items }
+    }
+
+    /// The vector of the items. Constant time, without memory.
+    pub fn into_vec(self) -> Vec<T>
+        ensures { result.items ≡ self }
+    {
+        self.items
+    }
+
     /// Puts the item last; after `NoMemory` the list is as before. Amortized constant time.
     pub fn push(&mut self, item: T) -> Result<(), NoMemory>
     where

@@ -23,7 +23,7 @@ pub trait Row: Copy {
 }
 
 /// An actor and a count, from 1. Rows are ordered by actor.
-#[derive(Clone, Copy, PartialEq, Eq, Debug)]
+#[derive(Clone, Copy, PartialEq, Eq, PartialOrd, Ord, Debug)]
 pub struct ActorCount {
     pub actor: ActorId,
     pub count: u32,
@@ -36,7 +36,7 @@ impl Row for ActorCount {
 }
 
 /// An owner, a target and a count, from 1. Rows are ordered by owner, then by target.
-#[derive(Clone, Copy, PartialEq, Eq, Debug)]
+#[derive(Clone, Copy, PartialEq, Eq, PartialOrd, Ord, Debug)]
 pub struct PairCount {
     pub owner: ActorId,
     pub target: ActorId,
@@ -75,6 +75,22 @@ impl<T: Row> RisingList<T> {
         RisingList {
             rows: Vec::new(alloc),
         }
+    }
+
+    /// The list of the rows of a vector, which rise. Constant time, without memory.
+    pub fn from_vec(rows: Vec<T>) -> RisingList<T>
+        requires rising { IsRising T.is_below rows.items }
+        requires stand { AllByRecursion T.may_stand rows.items }
+        ensures { result ≡ rows.items }
+    {
+        RisingList { rows }
+    }
+
+    /// The vector of the rows. Constant time, without memory.
+    pub fn into_vec(self) -> Vec<T>
+        ensures { result.items ≡ self }
+    {
+        self.rows
     }
 
     /// Puts the row last; it is above all rows of the list. After `NoMemory` the list is as before. Amortized constant

@@ -32,6 +32,7 @@ fn lists_keep_their_items(rt: HostRuntime) -> Result<(), Fail> {
     assert_eq!(rt; (same.len(), same.get(1), same.get(2)), (2, Some(&5), None));
     assert_eq!(rt; same.iter().count(), 2);
     assert_eq!(rt; bytes.as_slice(), same.as_slice());
+    assert_eq!(rt; Octets::from_vec(same.into_vec()).get(0), Some(&7));
     assert_eq!(rt; RefList::new(rt.alloc()).len(), 0);
     Ok(())
 }

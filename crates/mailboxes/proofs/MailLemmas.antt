@@ -1,36 +1,11 @@
 -- What a change of the map of queues says of the mailboxes.
-use Rattle.std.proofs.Common.{◌≡◌, ◌≢◌, Bool, true, false, cond, List, [], ◌∷◌, Option, Some, refl, sym, ◌∙◌, ap, arith}
-use Rattle.std.proofs.lemmas.Bool.Decides.{nat_tests}
+use Rattle.std.proofs.Common.{◌≡◌, ◌≢◌, false, List, [], Option, Some, sym, ◌∙◌, ap}
 use Rattle.std.proofs.lemmas.Map.Steps.{set_value_same}
 use Rattle.std.specs.Map.{lookup, set_value}
 use Rattle.std.specs.Option.{unwrap_or}
-use Rattle.std.specs.Ordering.{is_eq}
-use Rattle.crgc_ids.proofs.ActorLaws.{same_actor-decides}
-use Rattle.crgc_ids.specs.Actor.{Actor, same_actor}
-use Rattle.crgc_ids.specs.contracts.ids.ActorIdOrd.TheImpl as order
+use Rattle.crgc_ids.proofs.ActorMaps.{lookup-tie, tie, tie-apart}
+use Rattle.crgc_ids.specs.Actor.{Actor}
 use Rattle.mailboxes.specs.Mail.{ChangesOnly, Mailbox, mailbox_of}
-
--- whether two actors tie in their order
-abbrev tie : Actor → Actor → Bool
-tie a b = is_eq ((order.cmp-value).it a b)
-
--- no two actors tie but one and itself
-tie-same : (a b : Actor) → tie a b ≡ same_actor a b
-tie-same a b = grind (arith, nat_tests)
-
-apart_from_differ : (a b : Actor) → b ≢ a → tie a b ≡ false
-apart_from_differ a b differ =
-    let Told : Bool → Type 0 = λ t. same_actor a b ≡ t → t ≡ false in
-    let told : Told (same_actor a b) = elim (same_actor a b) as Told [
-      | true ↦ λ e. absurd (differ (sym ((same_actor-decides a b).0 e)))
-      | false ↦ λ _. refl
-    ] in
-    tie-same a b ∙ told refl
-
--- so a mailbox is what the map has at its actor
-lookup-tie : (a : Actor) (boxes : List (Actor × Mailbox)) → lookup (tie a) boxes ≡ lookup (same_actor a) boxes
-lookup-tie a [] = refl
-lookup-tie a (r ∷ boxes) = rw (tie-same a r.0) (ap (cond (same_actor a r.0) (Some r.1)) (lookup-tie a boxes))
 
 -- an empty mailbox, if the map has none
 abbrev box : Option Mailbox → Mailbox
@@ -47,7 +22,7 @@ changes_only old new actor written is here there same =
       mail = ap (λ b. b.mail) now;
       room = ap (λ b. b.room) now;
       others = λ a differ.
-          let kept = mailbox_of-tie a new ∙ ap box (there a (apart_from_differ actor a differ)) ∙ sym (mailbox_of-tie a old) in
+          let kept = mailbox_of-tie a new ∙ ap box (there a (tie-apart actor a differ)) ∙ sym (mailbox_of-tie a old) in
           (ap (λ b. b.mail) kept, ap (λ b. b.room) kept);
     }
 
