@@ -1,0 +1,11 @@
+//! Rows added up: the rows of one key become one row, whose count is the sum of theirs.
+#![tactic(auto)]
+
+mod counts;
+mod pairs;
+
+pub use counts::sum_of_counts;
+pub use pairs::sum_of_pairs;
+
+#[cfg(test)]
+mod tests;
