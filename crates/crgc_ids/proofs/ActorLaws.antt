@@ -12,6 +12,11 @@ IsActorBelow-trans a b c (inl h) (inr k) = inl (omega arith)
 IsActorBelow-trans a b c (inr h) (inl k) = inl (omega arith)
 IsActorBelow-trans a b c (inr h) (inr k) = inr (omega arith)
 
+-- no actor is below itself
+pub IsActorBelow-apart : (a : Actor) → IsActorBelow a a → ⊥
+IsActorBelow-apart a (inl h) = omega arith
+IsActorBelow-apart a (inr h) = omega arith
+
 -- the order of pairs is transitive
 pub IsPairBelow-trans : (a s b t c u : Actor) → IsPairBelow a s b t → IsPairBelow b t c u → IsPairBelow a s c u
 IsPairBelow-trans a s b t c u (inl h) (inl k) = inl (IsActorBelow-trans a b c h k)

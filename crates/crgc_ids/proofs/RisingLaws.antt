@@ -1,5 +1,5 @@
 -- Rising lists that are extended, filtered or compared.
-use Rattle.std.proofs.Common.{◌≡◌, ◌<◌, ◌+◌, ℕ, zero, suc, Bool, true, false, cond, List, [], ◌∷◌, ◌++◌, refl, sym, ◌∙◌, ap, inl, inr, arith}
+use Rattle.std.proofs.Common.{◌≡◌, ◌<◌, ◌+◌, ℕ, zero, suc, Bool, true, false, cond, List, [], ◌∷◌, ◌++◌, refl, sym, ◌∙◌, ap, subst, inl, inr, arith}
 use Rattle.std.proofs.ByRecursion.{All-push}
 use Rattle.std.specs.List.{AllByRecursion, filter, range_with_len}
 use Rattle.crgc_ids.specs.Members.{IsPart}
@@ -44,20 +44,24 @@ IsRising-range a (suc n) = (all_above a (a + 1) n (omega arith), IsRising-range 
     all_above k a zero h = tt
     all_above k a (suc n) h = (h, all_above k (a + 1) n (omega arith))
 
--- rising lists of the same nodes are equal
-pub rising-same : (xs ys : List ℕ) → IsRising ◌<◌ xs → IsRising ◌<◌ ys → IsPart xs ys → IsPart ys xs → xs ≡ ys
-rising-same [] [] r s p q = refl
-rising-same [] (y ∷ ys) r s p q = absurd (q y (inl refl))
-rising-same (x ∷ xs) [] r s p q = absurd (p x (inl refl))
-rising-same (x ∷ xs) (y ∷ ys) r s p q =
+-- rising lists of the same members are equal, in an order in which nothing is below itself
+pub rising-same : {X : Type 0} (below : X → X → Type 0) (apart : (x : X) → below x x → ⊥) (trans : (x y z : X) → below x y → below y z → below x z) (xs ys : List X) → IsRising below xs → IsRising below ys → IsPart xs ys → IsPart ys xs → xs ≡ ys
+rising-same below apart trans [] [] r s p q = refl
+rising-same below apart trans [] (y ∷ ys) r s p q = absurd (q y (inl refl))
+rising-same below apart trans (x ∷ xs) [] r s p q = absurd (p x (inl refl))
+rising-same below apart trans (x ∷ xs) (y ∷ ys) r s p q =
+    let not_both : below x y → below y x → ⊥ = λ h k. apart x (trans x y x h k) in
     let first : x ≡ y = elim (p x (inl refl)) [
       | inl e ↦ e
       | inr h ↦ elim (q y (inl refl)) [
         | inl e ↦ sym e
-        | inr k ↦ (let below = all-member (λ z. y < z) x ys s.0 h in let above = all-member (λ z. x < z) y xs r.0 k in absurd (omega arith))
+        | inr k ↦ absurd (not_both (all-member (below x) y xs r.0 k) (all-member (below y) x ys s.0 h))
       ]
     ] in
-    let rest : xs ≡ ys = rising-same xs ys r.1 s.1
-    (λ z h. let above = all-member (λ z. x < z) z xs r.0 h in elim (p z (inr h)) [ inl e ↦ absurd (omega arith) | inr k ↦ k ])
-    (λ z h. let above = all-member (λ z. y < z) z ys s.0 h in elim (q z (inr h)) [ inl e ↦ absurd (omega arith) | inr k ↦ k ]) in
+    let rest : xs ≡ ys = rising-same below apart trans xs ys r.1 s.1
+    (λ z h. elim (p z (inr h)) [ inl e ↦ absurd (apart x (subst (below x) (e ∙ sym first) (all-member (below x) z xs r.0 h))) | inr k ↦ k ])
+    (λ z h. elim (q z (inr h)) [ inl e ↦ absurd (apart y (subst (below y) (e ∙ first) (all-member (below y) z ys s.0 h))) | inr k ↦ k ]) in
     ap (λ z. z ∷ xs) first ∙ ap (λ zs. y ∷ zs) rest
+
+pub rising_nodes-same : (xs ys : List ℕ) → IsRising ◌<◌ xs → IsRising ◌<◌ ys → IsPart xs ys → IsPart ys xs → xs ≡ ys
+rising_nodes-same = rising-same ◌<◌ (λ x h. omega arith) (λ x y z h k. omega arith)

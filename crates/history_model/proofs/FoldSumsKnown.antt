@@ -1,9 +1,9 @@
 -- The known actors of a fold, and that both ends of a positive edge are known: so the dead may be sought among the
 -- known actors, as `FoldSumsDead` does.
-use Rattle.std.proofs.Common.{◌≡◌, ◌<◌, ◌+◌, ◌||◌, ◌↔◌, ◌⊎◌, ℕ, Bool, true, false, cond, List, [], ◌∷◌, ◌++◌, refl, sym, ◌∙◌, subst, inl, inr, arith}
+use Rattle.std.proofs.Common.{◌≡◌, ◌<◌, ◌+◌, ◌||◌, ◌↔◌, ◌⊎◌, ℕ, Bool, true, false, cond, List, [], ◌∷◌, ◌++◌, sym, subst, inl, inr, arith}
 use Rattle.std.proofs.lemmas.Bool.{false≢true, ltb-true, or_left, or_right, and_parts, or_cases}
 use Rattle.std.specs.List.{flat_map}
-use Rattle.crgc_ids.specs.Actor.{Actor, is_actor_below}
+use Rattle.crgc_ids.specs.Actor.{Actor}
 use Rattle.crgc_ids.specs.Nodes.{nodes_below}
 use Rattle.crgc_ids.specs.Members.{IsAmong}
 use Rattle.crgc_ids.proofs.MembersLaws.{IsAmong-append_cases, IsAmong-append_left, IsAmong-append_right, IsAmong-from_range, IsAmong-range, list_any-member, list_any-true}
@@ -12,8 +12,9 @@ use Rattle.history_model.specs.Cluster.{Cluster, same_actor}
 use Rattle.history_model.specs.Facts.{Fact, received, sent_to, created, released, flagged, is_created, names}
 use Rattle.history_model.specs.Streams.{Notice, delta, window_of, final_of}
 use Rattle.history_model.specs.Folds.{Fold}
-use Rattle.history_model.specs.Graph.{carried_count, created_count, delta_facts, has_edge, holds_actor, insert_actor, known_actors, link_facts, named_by, notice_facts, released_count, rising_actors}
+use Rattle.history_model.specs.Graph.{carried_count, created_count, delta_facts, has_edge, holds_actor, known_actors, link_facts, named_by, notice_facts, released_count}
 use Rattle.history_model.proofs.Basics.{same_actor-equal, same_actor-refl}
+use Rattle.history_model.proofs.RisingActors.{rising-among}
 use Rattle.history_model.proofs.Lists.{IsAmong-flat_map, IsAmong-from_flat_map, tally-some}
 
 -- ---- members of lists
@@ -25,42 +26,6 @@ holds-among xs a = (
       let found = list_any-true (λ x. same_actor x a) xs t in
       subst (λ x. IsAmong x xs) (same_actor-equal found.0 a found.2) found.1,
   λ h. list_any-member (λ x. same_actor x a) a xs h (same_actor-refl a),
-)
-
--- ---- rising lists of actors
-
-insert-among : (a b : Actor) (xs : List Actor) → IsAmong a (insert_actor b xs) → (a ≡ b) ⊎ IsAmong a xs
-insert-among a b [] h = h
-insert-among a b (c ∷ cs) h =
-    let Kept : Type 0 = (a ≡ b) ⊎ IsAmong a (c ∷ cs) in
-    let later : IsAmong a (c ∷ insert_actor b cs) → Kept =
-    λ k. elim k [ inl e ↦ inr (inl e) | inr m ↦ elim (insert-among a b cs m) [ inl e ↦ inl e | inr n ↦ inr (inr n) ] ] in
-    let below : IsAmong a (cond (is_actor_below b c) (b ∷ c ∷ cs) (c ∷ insert_actor b cs)) → Kept =
-    elim (is_actor_below b c) as (λ v. IsAmong a (cond v (b ∷ c ∷ cs) (c ∷ insert_actor b cs)) → Kept) [ true ↦ λ k. k | false ↦ later ] in
-    (elim (same_actor b c) as (λ v. IsAmong a (cond v (c ∷ cs) (cond (is_actor_below b c) (b ∷ c ∷ cs) (c ∷ insert_actor b cs))) → Kept) [
-      | true ↦ λ k. inr k
-      | false ↦ below
-    ]) h
-
-insert-keeps : (a b : Actor) (xs : List Actor) → (a ≡ b) ⊎ IsAmong a xs → IsAmong a (insert_actor b xs)
-insert-keeps a b [] h = h
-insert-keeps a b (c ∷ cs) h =
-    let later : IsAmong a (c ∷ insert_actor b cs) =
-    elim h [ inl e ↦ inr (insert-keeps a b cs (inl e)) | inr k ↦ elim k [ inl e ↦ inl e | inr m ↦ inr (insert-keeps a b cs (inr m)) ] ] in
-    let below : IsAmong a (cond (is_actor_below b c) (b ∷ c ∷ cs) (c ∷ insert_actor b cs)) =
-    elim (is_actor_below b c) as (λ v. IsAmong a (cond v (b ∷ c ∷ cs) (c ∷ insert_actor b cs))) [ true ↦ h | false ↦ later ] in
-    let Kept : Bool → Type 0 = λ v. same_actor b c ≡ v → IsAmong a (cond v (c ∷ cs) (cond (is_actor_below b c) (b ∷ c ∷ cs) (c ∷ insert_actor b cs))) in
-    let kept : Kept (same_actor b c) = elim (same_actor b c) as Kept [
-      | true ↦ λ t. elim h [ inl e ↦ inl (e ∙ same_actor-equal b c t) | inr k ↦ k ]
-      | false ↦ λ _. below
-    ] in
-    kept refl
-
-rising-among : (a : Actor) (xs : List Actor) → IsAmong a (rising_actors xs) ↔ IsAmong a xs
-rising-among a [] = (λ h. h, λ h. h)
-rising-among a (b ∷ bs) = (
-  λ h. elim (insert-among a b (rising_actors bs) h) [ inl e ↦ inl e | inr k ↦ inr ((rising-among a bs).0 k) ],
-  λ h. insert-keeps a b (rising_actors bs) (elim h [ inl e ↦ inl e | inr k ↦ inr ((rising-among a bs).1 k) ]),
 )
 
 -- ---- named and known actors

@@ -1,6 +1,7 @@
 pub mod Basics
 pub mod Lists
 pub mod Sums
+pub mod RisingActors
 pub mod AccountsBirths
 pub mod AccountsGrowth
 pub mod AccountsNotes

@@ -1,4 +1,4 @@
+pub mod CarriedLemmas
+pub mod KeepingLemmas
+pub mod NamesLemmas
 pub mod NumbersLemmas
-pub mod PutLemmas
-pub mod RowsLemmas
-pub mod SumsLemmas

@@ -1,4 +1,6 @@
 pub mod Admission
 pub mod Gate
+pub mod Keeping
+pub mod NameSet
 pub mod Numbered
-pub mod Sums
+pub mod Pending

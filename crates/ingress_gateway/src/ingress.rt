@@ -2,12 +2,12 @@
 ghost use Rattle.std.specs.Prelude.{◌≡◌, ◌≢◌, ◌+◌, ◌<◌, ◌^◌, ℕ, [], true, false, IfNone, IfOk, IfSome, OnErr, OnSome, count_by, length};
 ghost use Rattle.crgc_ids.specs.Actor.{Actor, same_actor};
 ghost use Rattle.ingress_gateway.specs.Admission.{Answered};
-ghost use Rattle.ingress_gateway.specs.Gate.{blank, is_admitted};
-ghost use Rattle.ingress_gateway.specs.Sums.{carried_count, message_count};
+ghost use Rattle.ingress_gateway.specs.Gate.{IsWindowOf, emptied, is_admitted};
+ghost use Rattle.ingress_gateway.specs.Pending.{carried_count, message_count, named_count};
 
+use crate::backlog::Backlog;
 use crate::numbers::Numbers;
-use crate::sums::{with_carried, with_message};
-use crgc_ids::{ActorCounts, ActorId, NoMemory, NodeId, PairCounts};
+use crgc_ids::{ActorId, NoMemory, NodeId};
 use history_model::Window;
 use std::alloc::Global;
 use std::marker::Model;
@@ -21,14 +21,16 @@ pub enum Admit {
     Admitted,
 }
 
-/// The receiving end of the link between two nodes. It keeps its allocator. Contracts see whether it is closed, which
-/// numbers were admitted, and the window that comes next.
+/// The receiving end of the link between two nodes. It keeps its allocator. Contracts see the two nodes, whether the link
+/// is closed, which numbers were admitted, and what was admitted since the last window.
 #[derive(Drop)]
 pub struct Ingress {
     alloc: Global,
+    at: NodeId,
+    from: NodeId,
     is_closed: bool,
     numbers: Numbers,
-    window: Window,
+    backlog: Backlog,
 }
 
 impl Model for Ingress {
@@ -36,32 +38,34 @@ impl Model for Ingress {
 
     ghost Value = { Gate };
 
-    ghost view = { λ i. record { is_closed = i.is_closed; numbers = i.numbers; window = i.window } };
+    ghost view = { λ i. record { at = i.at; from = i.from; is_closed = i.is_closed; numbers = i.numbers; messages = i.backlog.messages; carried = i.backlog.carried } };
 }
 
 impl Ingress {
     /// The open end of the link from one node at another, on which nothing was admitted.
     pub fn new(alloc: Global, from: NodeId, at: NodeId) -> Ingress
         requires { from ≢ at }
-        ensures is_open { result.is_closed ≡ false }
+        ensures link { (result.at ≡ at) × (result.from ≡ from) × (result.is_closed ≡ false) }
         ensures numbers { (k : ℕ) → is_admitted result k ≡ false }
-        ensures window { result.window ≡ record { at = at; from = from; messages = []; carried = [] } }
+        ensures messages { result.messages ≡ [] }
+        ensures carried { result.carried ≡ [] }
     {
         Ingress {
             alloc,
+            at,
+            from,
             is_closed: false,
             numbers: Numbers::new(alloc),
-            window: blank_window(alloc, at, from),
+            backlog: Backlog::new(alloc),
         }
     }
 
     /// A copy of the message with this number comes to the actor. Each number is admitted once, and counts then in the
-    /// window that comes next. `Admitted` alone changes anything; after `NoMemory` all is as before. The sums are made
-    /// anew: linear time in the rows of the window for each reference, and logarithmic in the numbers beyond those that
-    /// came in order.
+    /// window that comes next. `Admitted` alone changes anything; after `NoMemory` all is as before. Logarithmic time in
+    /// the numbers beyond those that came in order, and amortized constant time for each reference on average.
     pub fn admit(&mut self, number: u32, to: ActorId, refs: &[ActorId]) -> Result<Admit, NoMemory>
-        requires messages { message_count to self.old.window.messages + 1 < 2 ^ 32 }
-        requires carried { (a : Actor) → carried_count to a self.old.window.carried + count_by (same_actor a) refs.now < 2 ^ 32 }
+        requires messages { message_count to self.old.messages + 1 < 2 ^ 32 }
+        requires carried { (a : Actor) → carried_count to a self.old.carried + count_by (same_actor a) refs.now < 2 ^ 32 }
         ensures ok { IfOk result (λ answer. Answered self.old self.new number to refs.now answer) }
         ensures err { OnErr result (self.new ≡ self.old) }
     {
@@ -71,63 +75,61 @@ impl Ingress {
         if self.numbers.contains(number) {
             return Ok(Admit::Discarded);
         }
-        let Ok(messages) = with_message(self.alloc, &self.window.messages, to) else {
+        if self.backlog.reserve(refs.len() + 1).is_err() {
             return Err(NoMemory);
-        };
-        let Ok(carried) = with_carried(self.alloc, &self.window.carried, to, refs) else {
-            return Err(NoMemory);
-        };
+        }
         if self.numbers.insert(number).is_err() {
             return Err(NoMemory);
         }
-        self.window.messages = messages;
-        self.window.carried = carried;
+        self.backlog.note(to, refs);
         Ok(Admit::Admitted)
     }
 
-    /// What was admitted since the last window; None exactly where nothing was. Constant time, without memory.
+    /// How many different actors the next window will name. Constant time.
+    pub fn named(&self) -> usize
+        ensures { result ≡ named_count self.now.messages self.now.carried }
+    {
+        self.backlog.named()
+    }
+
+    /// What was admitted since the last window; None exactly where nothing was. Time in proportion to n log n for n
+    /// messages and references, without memory.
     pub fn cut_window(&mut self) -> Option<Window>
         requires { self.old.is_closed ≡ false }
-        ensures some { IfSome result (λ w. w ≡ self.old.window) }
-        ensures admitted { OnSome result (0 < length self.old.window.messages) }
-        ensures after { OnSome result (self.new ≡ record self.old { window = blank self.old.window }) }
-        ensures none { IfNone result (self.old.window.messages ≡ []) }
+        ensures some { IfSome result (λ w. IsWindowOf self.old w) }
+        ensures admitted { OnSome result (0 < length self.old.messages) }
+        ensures after { OnSome result (self.new ≡ emptied self.old) }
+        ensures none { IfNone result (self.old.messages ≡ []) }
         ensures unchanged { IfNone result (self.new ≡ self.old) }
     {
-        if self.window.messages.len() == 0 {
+        if self.backlog.is_empty() {
             return None;
         }
         Some(self.take_window())
     }
 
-    /// What was admitted since the last window, perhaps nothing. Nothing is admitted from then on. Constant time,
-    /// without memory.
+    /// What was admitted since the last window, perhaps nothing. Nothing is admitted from then on. Time in proportion to
+    /// n log n for n messages and references, without memory.
     pub fn close(&mut self) -> Window
         requires { self.old.is_closed ≡ false }
-        ensures window { result ≡ self.old.window }
-        ensures after { self.new ≡ record self.old { is_closed = true; window = blank self.old.window } }
+        ensures window { IsWindowOf self.old result }
+        ensures after { self.new ≡ record (emptied self.old) { is_closed = true } }
     {
         self.is_closed = true;
         self.take_window()
     }
 
     fn take_window(&mut self) -> Window
-        ensures window { result ≡ self.old.window }
-        ensures after { self.new ≡ record self.old { window = blank self.old.window } }
+        ensures window { IsWindowOf self.old result }
+        ensures after { self.new ≡ emptied self.old }
     {
-        let next = blank_window(self.alloc, self.window.at, self.window.from);
-        mem::replace(&mut self.window, next)
-    }
-}
-
-/// The window in which nothing was admitted.
-fn blank_window(alloc: Global, at: NodeId, from: NodeId) -> Window
-    ensures { result ≡ record { at = at; from = from; messages = []; carried = [] } }
-{
-    Window {
-        at,
-        from,
-        messages: ActorCounts::new(alloc),
-        carried: PairCounts::new(alloc),
+        let backlog = mem::replace(&mut self.backlog, Backlog::new(self.alloc));
+        let (messages, carried) = backlog.into_sums();
+        Window {
+            at: self.at,
+            from: self.from,
+            messages,
+            carried,
+        }
     }
 }

@@ -1,10 +1,10 @@
 //! The receiving end of a link: it admits each message once, and adds up what it admitted since the last window.
 #![tactic(auto)]
 
+mod backlog;
 mod ingress;
+mod names;
 mod numbers;
-mod rows;
-mod sums;
 
 pub use ingress::{Admit, Ingress};
 

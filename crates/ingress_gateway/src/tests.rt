@@ -13,8 +13,8 @@ fn actor(node: u8) -> Result<ActorId, Fail> {
 
 fn opened(alloc: Global) -> Result<Ingress, Fail>
     ensures open { IfOk result (λ g. g.is_closed ≡ false) }
-    ensures messages { IfOk result (λ g. g.window.messages ≡ []) }
-    ensures carried { IfOk result (λ g. g.window.carried ≡ []) }
+    ensures messages { IfOk result (λ g. g.messages ≡ []) }
+    ensures carried { IfOk result (λ g. g.carried ≡ []) }
 {
     let from = actor(1)?.node();
     let at = actor(0)?.node();
@@ -30,7 +30,7 @@ fn a_reference_carried_twice_counts_twice(rt: HostRuntime) -> Result<(), Fail> {
     let target = actor(1)?;
     let mut ingress = opened(rt.alloc())?;
     let answer = ingress.admit(0, owner, [target, target].as_slice())?;
-    assert_eq!(rt; answer, Admit::Admitted);
+    assert_eq!(rt; (answer, ingress.named()), (Admit::Admitted, 2));
     let window = ingress.cut_window().ok_or("a window")?;
     let count = 2;
     let twice = PairCount {
@@ -38,7 +38,22 @@ fn a_reference_carried_twice_counts_twice(rt: HostRuntime) -> Result<(), Fail> {
         target,
         count,
     };
-    assert_eq!(rt; window.carried.get(0), Some(&twice));
+    assert_eq!(rt;
+        (window.carried.len(), window.carried.get(0)),
+        (1, Some(&twice))
+    );
+    assert_eq!(rt; ingress.named(), 0);
+    Ok(())
+}
+
+#[test]
+fn a_number_that_was_admitted_is_discarded(rt: HostRuntime) -> Result<(), Fail> {
+    let to = actor(0)?;
+    let mut ingress = opened(rt.alloc())?;
+    assert_eq!(rt; ingress.admit(7, to, [to].as_slice())?, Admit::Admitted);
+    assert_eq!(rt; ingress.cut_window().ok_or("a window")?.messages.len(), 1);
+    assert_eq!(rt; ingress.admit(7, to, [to].as_slice())?, Admit::Discarded);
+    assert_eq!(rt; ingress.cut_window().is_none(), true);
     Ok(())
 }
 

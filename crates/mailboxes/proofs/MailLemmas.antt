@@ -1,5 +1,5 @@
 -- What a change of the map of queues says of the mailboxes.
-use Rattle.std.proofs.Common.{◌≡◌, ◌≢◌, false, List, [], Option, Some, sym, ◌∙◌, ap}
+use Rattle.std.proofs.Common.{◌≡◌, false, List, [], Option, Some, sym, ◌∙◌, ap}
 use Rattle.std.proofs.lemmas.Map.Steps.{set_value_same}
 use Rattle.std.specs.Map.{lookup, set_value}
 use Rattle.std.specs.Option.{unwrap_or}

@@ -5,7 +5,7 @@ use Rattle.std.specs.List.{AllByRecursion, filter}
 use Rattle.crgc_ids.proofs.LostNodesLaws.{lost_nodes-greatest, lost_nodes-grow, lost_nodes-lost, lost_nodes-rise, removed_nodes-grow, removed_nodes-rise, removed_nodes-sources}
 use Rattle.crgc_ids.proofs.MembersLaws.{IsAmong-filter, IsAmong-from_filter, IsAmong-from_range, IsAmong-range, filter_shortens, list_all-members, list_all-true}
 use Rattle.crgc_ids.proofs.NodesLaws.{has_node-from_true, has_node-member}
-use Rattle.crgc_ids.proofs.RisingLaws.{IsRising-filter, IsRising-range, rising-same}
+use Rattle.crgc_ids.proofs.RisingLaws.{IsRising-filter, IsRising-range, rising_nodes-same}
 use Rattle.crgc_ids.specs.LostNodes.{has_link, is_cut_off, lost_nodes, removed_nodes}
 use Rattle.crgc_ids.specs.Members.{IsAmong, IsPart}
 use Rattle.crgc_ids.specs.Nodes.{has_node, nodes_below}
@@ -71,7 +71,7 @@ module _ (n : ℕ) (links : List (ℕ × ℕ)) where
   pub kept_all : (xs : List ℕ) → IsBetween n links xs → kept xs ≡ xs → xs ≡ lost_nodes n links
   kept_all xs between all =
       let test = λ (s : ℕ). has_node xs s && is_cut_off n links xs s in
-      rising-same xs (lost_nodes n links) between.rising (lost_nodes-rise n links)
+      rising_nodes-same xs (lost_nodes n links) between.rising (lost_nodes-rise n links)
       (lost_nodes-greatest n links xs (λ s h.
       let source = (removed_nodes-sources n links s).0 (between.removed s h) in
       let passes = (IsAmong-from_filter test s (nodes_below n) (subst (IsAmong s) (sym all) h)).1 in
@@ -88,8 +88,8 @@ module _ (n : ℕ) (links : List (ℕ × ℕ)) where
 -- the removed and the lost nodes depend on the links alone
 pub removed_nodes-same : (n : ℕ) (links more : List (ℕ × ℕ)) → IsPart links more → IsPart more links → removed_nodes n links ≡ removed_nodes n more
 removed_nodes-same n links more p q =
-    rising-same (removed_nodes n links) (removed_nodes n more) (removed_nodes-rise n links) (removed_nodes-rise n more) (removed_nodes-grow n links more p) (removed_nodes-grow n more links q)
+    rising_nodes-same (removed_nodes n links) (removed_nodes n more) (removed_nodes-rise n links) (removed_nodes-rise n more) (removed_nodes-grow n links more p) (removed_nodes-grow n more links q)
 
 pub lost_nodes-same : (n : ℕ) (links more : List (ℕ × ℕ)) → IsPart links more → IsPart more links → lost_nodes n links ≡ lost_nodes n more
 lost_nodes-same n links more p q =
-    rising-same (lost_nodes n links) (lost_nodes n more) (lost_nodes-rise n links) (lost_nodes-rise n more) (lost_nodes-grow n links more p) (lost_nodes-grow n more links q)
+    rising_nodes-same (lost_nodes n links) (lost_nodes n more) (lost_nodes-rise n links) (lost_nodes-rise n more) (lost_nodes-grow n links more p) (lost_nodes-grow n more links q)

@@ -5,7 +5,7 @@ use Rattle.std.proofs.lemmas.List.{append-nil}
 use Rattle.std.specs.List.{AllByRecursion, filter, list_all, range_with_len}
 use Rattle.crgc_ids.proofs.MembersLaws.{IsAmong-filter, IsAmong-from_filter, IsAmong-from_range, IsAmong-range, all-member, list_all-members, list_all-true}
 use Rattle.crgc_ids.proofs.NodesLaws.{has_node-from_true, has_node-member}
-use Rattle.crgc_ids.proofs.RisingLaws.{IsRising-filter, IsRising-range, rising-same}
+use Rattle.crgc_ids.proofs.RisingLaws.{IsRising-filter, IsRising-range, rising_nodes-same}
 use Rattle.crgc_ids.specs.Members.{IsAmong}
 use Rattle.crgc_ids.specs.Nodes.{has_node, nodes_below, with_node}
 use Rattle.crgc_ids.specs.Rising.{IsRising}
@@ -78,7 +78,7 @@ all_fails p n k below fails =
 pub filter-members : (n : ℕ) (p : ℕ → Bool) (xs : List ℕ) → IsRising ◌<◌ xs → AllByRecursion (λ x. x < n) xs → filter (λ s. has_node xs s && p s) (nodes_below n) ≡ filter p xs
 filter-members n p xs rising below =
     let member = λ (s : ℕ). has_node xs s && p s in
-    rising-same (filter member (nodes_below n)) (filter p xs)
+    rising_nodes-same (filter member (nodes_below n)) (filter p xs)
     (IsRising-filter ◌<◌ member (nodes_below n) (IsRising-range 0 n))
     (IsRising-filter ◌<◌ p xs rising)
     (λ s h. let both = and_parts (has_node xs s) (p s) (IsAmong-from_filter member s (nodes_below n) h).1 in IsAmong-filter p s xs (has_node-from_true xs s both.0) both.1)
