@@ -1,7 +1,6 @@
 -- The names of rows against a table: which tables have all of them, and how long such a table is.
 use Rattle.std.proofs.Common.{◌≡◌, ◌<◌, ◌≤◌, ◌+◌, ◌*◌, ◌^◌, ℕ, suc, Bool, true, false, cond, ltb, List, [], ◌∷◌, ◌++◌, length, Option, Some, None, Ok, refl, sym, ap, subst, ◌∙◌, inl, inr, arith}
 use Rattle.std.specs.List.{AllByRecursion, flat_map, list_any}
-use Rattle.std.specs.Bool.{Decides}
 use Rattle.std.proofs.lemmas.Bool.Decides.{same_from_decides}
 use Rattle.std.proofs.lemmas.Bool.{ltb-false}
 use Rattle.std.proofs.lemmas.List.Concat.{flat_map-cons}
@@ -9,7 +8,8 @@ use Rattle.crgc_ids.specs.Actor.{Actor, IsActorBelow, same_actor}
 use Rattle.crgc_ids.specs.Members.{IsAmong, IsPart}
 use Rattle.crgc_ids.specs.Rising.{IsRising}
 use Rattle.crgc_ids.proofs.ActorLaws.{same_actor-decides}
-use Rattle.crgc_ids.proofs.MembersLaws.{IsAmong-append_cases, IsAmong-append_left, IsAmong-append_right, list_any-member, list_any-true}
+use Rattle.crgc_ids.proofs.MembersLaws.{IsAmong-append_cases, IsAmong-append_left, IsAmong-append_right, list_any-member}
+use Rattle.history_model.proofs.RisingActors.{among-decides}
 use Rattle.wire_grammar.specs.Named.{table_of}
 use Rattle.wire_grammar.specs.Reading.{all_named, unnamed}
 use Rattle.wire_grammar.specs.Spelling.{index_len}
@@ -140,22 +140,13 @@ table_is table names t p q =
     table-same (table_of names) table (table_of-rises names) t
     (λ x m. q x (table_of-only x names m)) (λ x m. table_of-has x names (p x m))
 
-among : (names : List Actor) (a : Actor) → list_any (same_actor a) names ≡ true → IsAmong a names
-among names a e =
-    let h = list_any-true (same_actor a) names e in
-    subst (λ x. IsAmong x names) (sym ((same_actor-decides a h.0).0 h.2)) h.1
-
--- whether an actor is among others
-pub among-decides : (names : List Actor) (a : Actor) → Decides (list_any (same_actor a) names) (IsAmong a names)
-among-decides names a = (among names a, λ m. list_any-member (same_actor a) a names m ((same_actor-decides a a).1 refl))
-
 pub unnamed-none : (names : List Actor) (offset : ℕ) (table : List Actor) → unnamed names offset table ≡ None → IsPart table names
 unfolding unnamed
 unnamed-none names offset [] e = λ z m. absurd m
 unnamed-none names offset (a ∷ table) e =
     let P : Bool → Type 0 = λ v. list_any (same_actor a) names ≡ v → cond v (unnamed names (offset + 5) table) (Some offset) ≡ None → IsPart (a ∷ table) names in
     let cases : P (list_any (same_actor a) names) = elim (list_any (same_actor a) names) as P [
-      | true ↦ (λ t f. let rest = unnamed-none names (offset + 5) table f in λ z m. elim m [ inl k ↦ subst (λ w. IsAmong w names) (sym k) (among names a t) | inr k ↦ rest z k ])
+      | true ↦ (λ t f. let rest = unnamed-none names (offset + 5) table f in λ z m. elim m [ inl k ↦ subst (λ w. IsAmong w names) (sym k) ((among-decides names a).0 t) | inr k ↦ rest z k ])
       | false ↦ (λ t f. absurd cc)
     ] in
     cases refl e

@@ -1,7 +1,7 @@
 -- The actors that a bulletin names, and the table of them.
 use Rattle.std.specs.Prelude.{ℕ, suc, Bool, List, [], ◌∷◌, ◌++◌, length, nat_lt, if◌then◌else◌}
 use Rattle.std.specs.List.{flat_map}
-use Rattle.crgc_ids.specs.Actor.{Actor, is_actor_below, same_actor}
+use Rattle.crgc_ids.specs.Actor.{Actor, is_actor_below}
 use Rattle.crgc_ids.specs.declared.rising.ActorCount.{ActorCount}
 use Rattle.crgc_ids.specs.declared.rising.PairCount.{PairCount}
 use Rattle.history_model.specs.declared.records.Bulletin.{Bulletin}
@@ -9,6 +9,7 @@ use Rattle.history_model.specs.declared.records.Bulletin.TheVariants as bulletin
 use Rattle.history_model.specs.declared.records.Delta.{Delta}
 use Rattle.history_model.specs.declared.records.StateRow.{StateRow}
 use Rattle.history_model.specs.declared.records.Window.{Window}
+use Rattle.history_model.specs.Graph.{rising_actors}
 
 abbrev pub state_names : List StateRow → List Actor
 state_names rows = flat_map (λ r. r.actor ∷ []) rows
@@ -31,16 +32,9 @@ names_of (bulletins.Delta d) = delta_names d
 names_of (bulletins.Window w) = window_names w
 names_of (bulletins.Final w) = window_names w
 
--- a rising list with one more actor
-abbrev pub with_actor : Actor → List Actor → List Actor
-with_actor a [] = a ∷ []
-with_actor a (b ∷ rest) =
-    if is_actor_below a b then a ∷ (b ∷ rest) else (if same_actor a b then b ∷ rest else b ∷ with_actor a rest)
-
 -- the rising list of the actors of a list, each once
 unfoldable pub table_of : List Actor → List Actor
-table_of [] = []
-table_of (a ∷ rest) = with_actor a (table_of rest)
+table_of names = rising_actors names
 
 -- the index of an actor in a rising table: how many actors are below it
 unfoldable pub index_of : List Actor → Actor → ℕ
