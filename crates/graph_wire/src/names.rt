@@ -85,7 +85,7 @@ fn sorted(names: Vec<ActorId>) -> Vec<ActorId>
 }
 
 /// The table of the actors that a Delta names.
-pub fn delta_table(alloc: Global, d: &Delta) -> Result<Vec<ActorId>, NoMemory>
+fn delta_table(alloc: Global, d: &Delta) -> Result<Vec<ActorId>, NoMemory>
     ensures value { IfOk result (λ v. v.items ≡ table_of (delta_names d.now)) }
     ensures actors { OnOk result (AllByRecursion IsActor (delta_names d.now)) }
     ensures rises { OnOk result (DeltaRises d.now) }
@@ -96,7 +96,7 @@ pub fn delta_table(alloc: Global, d: &Delta) -> Result<Vec<ActorId>, NoMemory>
 }
 
 /// The table of the actors that a Window or a Final names.
-pub fn window_table(alloc: Global, w: &Window) -> Result<Vec<ActorId>, NoMemory>
+fn window_table(alloc: Global, w: &Window) -> Result<Vec<ActorId>, NoMemory>
     ensures value { IfOk result (λ v. v.items ≡ table_of (window_names w.now)) }
     ensures actors { OnOk result (AllByRecursion IsActor (window_names w.now)) }
     ensures rises { OnOk result (WindowRises w.now) }
