@@ -4,6 +4,6 @@ use Rattle.byteorder.specs.Endian.{big_bytes}
 use Rattle.wire_grammar.specs.Spelling.{index_len, count_text}
 use Rattle.graph_wire.proofs.writing.put_counts.Given as goal
 
-abbrev pub invariant-loop-row : goal.invariant-loop-row
-invariant-loop-row l =
-    l.out ≡ (l.fn.out ++ big_bytes (index_len l.wide) (length l.rows)) ++ flat_map (count_text l.wide l.table) (take l.row-index l.rows)
+abbrev pub invariant-loop-count : goal.invariant-loop-count
+invariant-loop-count l =
+    l.out.items ≡ (l.fn.out.items ++ big_bytes (index_len l.wide) (length l.rows)) ++ flat_map (count_text l.wide l.table) (take l.count-index l.rows)
