@@ -16,21 +16,21 @@ use Rattle.wire_grammar.proofs.Tables.{table-same, table_of-has, table_of-only, 
 use Rattle.graph_wire.specs.Pushed.{owner_names, pushed_delta, pushed_pairs, pushed_window, target_names}
 
 -- the same members
-abbrev pub AreMates : List Actor → List Actor → Type 0
-AreMates xs ys = IsPart xs ys × IsPart ys xs
+abbrev pub SameMembers : List Actor → List Actor → Type 0
+SameMembers xs ys = IsPart xs ys × IsPart ys xs
 
 part-both : (xs ys us vs : List Actor) → IsPart xs ys → IsPart us vs → IsPart (xs ++ us) (ys ++ vs)
 part-both xs ys us vs h k x m =
     elim (IsAmong-append_cases x xs us m) [ inl l ↦ IsAmong-append_left x ys vs (h x l) | inr r ↦ IsAmong-append_right x ys vs (k x r) ]
 
-mates-both : (xs ys us vs : List Actor) → AreMates xs ys → AreMates us vs → AreMates (xs ++ us) (ys ++ vs)
-mates-both xs ys us vs h k = (part-both xs ys us vs h.0 k.0, part-both ys xs vs us h.1 k.1)
+members-both : (xs ys us vs : List Actor) → SameMembers xs ys → SameMembers us vs → SameMembers (xs ++ us) (ys ++ vs)
+members-both xs ys us vs h k = (part-both xs ys us vs h.0 k.0, part-both ys xs vs us h.1 k.1)
 
-mates-itself : (xs : List Actor) → AreMates xs xs
-mates-itself xs = (λ x m. m, λ x m. m)
+members-itself : (xs : List Actor) → SameMembers xs xs
+members-itself xs = (λ x m. m, λ x m. m)
 
-mates-pairs : (rows : List PairCount) → AreMates (pushed_pairs rows) (pair_names rows)
-mates-pairs rows =
+members-pairs : (rows : List PairCount) → SameMembers (pushed_pairs rows) (pair_names rows)
+members-pairs rows =
     let owner : PairCount → List Actor = λ r. r.owner ∷ [] in
     let target : PairCount → List Actor = λ r. r.target ∷ [] in
     let ends : PairCount → List Actor = λ r. r.owner ∷ r.target ∷ [] in (
@@ -51,25 +51,25 @@ mates-pairs rows =
           ],
     )
 
-pub mates-delta : (d : Delta) → AreMates (pushed_delta d) (delta_names d)
-mates-delta d =
-    mates-both (state_names d.states) (state_names d.states) (count_names d.sent ++ (pushed_pairs d.created ++ pushed_pairs d.released)) (count_names d.sent ++ (pair_names d.created ++ pair_names d.released))
-    (mates-itself (state_names d.states))
-    (mates-both (count_names d.sent) (count_names d.sent) (pushed_pairs d.created ++ pushed_pairs d.released) (pair_names d.created ++ pair_names d.released)
-    (mates-itself (count_names d.sent))
-    (mates-both (pushed_pairs d.created) (pair_names d.created) (pushed_pairs d.released) (pair_names d.released) (mates-pairs d.created) (mates-pairs d.released)))
+pub members-delta : (d : Delta) → SameMembers (pushed_delta d) (delta_names d)
+members-delta d =
+    members-both (state_names d.states) (state_names d.states) (count_names d.sent ++ (pushed_pairs d.created ++ pushed_pairs d.released)) (count_names d.sent ++ (pair_names d.created ++ pair_names d.released))
+    (members-itself (state_names d.states))
+    (members-both (count_names d.sent) (count_names d.sent) (pushed_pairs d.created ++ pushed_pairs d.released) (pair_names d.created ++ pair_names d.released)
+    (members-itself (count_names d.sent))
+    (members-both (pushed_pairs d.created) (pair_names d.created) (pushed_pairs d.released) (pair_names d.released) (members-pairs d.created) (members-pairs d.released)))
 
-pub mates-window : (w : Window) → AreMates (pushed_window w) (window_names w)
-mates-window w = mates-both (count_names w.messages) (count_names w.messages) (pushed_pairs w.carried) (pair_names w.carried) (mates-itself (count_names w.messages)) (mates-pairs w.carried)
+pub members-window : (w : Window) → SameMembers (pushed_window w) (window_names w)
+members-window w = members-both (count_names w.messages) (count_names w.messages) (pushed_pairs w.carried) (pair_names w.carried) (members-itself (count_names w.messages)) (members-pairs w.carried)
 
-pub mates-table : (xs ys : List Actor) → AreMates xs ys → table_of xs ≡ table_of ys
-mates-table xs ys h =
+pub members-table : (xs ys : List Actor) → SameMembers xs ys → table_of xs ≡ table_of ys
+members-table xs ys h =
     table-same (table_of xs) (table_of ys) (table_of-rises xs) (table_of-rises ys)
     (λ x m. table_of-has x ys (h.0 x (table_of-only x xs m)))
     (λ x m. table_of-has x xs (h.1 x (table_of-only x ys m)))
 
-pub mates-actors : (xs ys : List Actor) → AreMates xs ys → AllByRecursion IsActor xs → AllByRecursion IsActor ys
-mates-actors xs ys h all = all-from_each IsActor ys (λ x m. all-member IsActor x xs all (h.1 x m))
+pub members-actors : (xs ys : List Actor) → SameMembers xs ys → AllByRecursion IsActor xs → AllByRecursion IsActor ys
+members-actors xs ys h all = all-from_each IsActor ys (λ x m. all-member IsActor x xs all (h.1 x m))
 
 pub on_ok : {A E : Type 0} (P : Type 0) (r : Result A E) → P → OnOk r P
 on_ok P (Ok x) p = p

@@ -130,7 +130,7 @@ fn window_table(alloc: Global, w: &Window) -> Result<Vec<ActorId>, NoMemory>
     sorted(names)
 }
 
-/// The table of the actors that a bulletin names: rising, each once. Time in proportion to n log n for n names.
+/// The table of the actors that a bulletin names: rising, each once.
 pub fn table(alloc: Global, b: &Bulletin) -> Result<Vec<ActorId>, NoMemory>
     ensures value { IfOk result (λ v. v.items ≡ table_of (names_of b.now)) }
     ensures actors { OnOk result (AllByRecursion IsActor (names_of b.now)) }

@@ -258,8 +258,8 @@ fn put_window(out: &mut Vec<u8>, wide: bool, table: &[ActorId], w: &Window) -> R
     put_pairs(out, wide, table, w.carried.as_slice())
 }
 
-/// The one spelling of the bulletin, in the wide form where it names more than 65,535 actors. Its names are sorted:
-/// time in proportion to n log n for n names, and to the bytes.
+/// The one spelling of the bulletin, in the wide form where it names more than 65,535 actors. Time in proportion to
+/// n log n for n names at most, and to n where rows that follow one another name actors that do so in the table.
 #[tactic(auto, unfolding(wire_grammar::specs::Spelling::spelled))]
 pub fn write(alloc: Global, b: &Bulletin) -> Result<Octets, NoMemory>
     requires { IsWritable b.now }
