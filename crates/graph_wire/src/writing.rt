@@ -182,8 +182,8 @@ fn put_states(
 {
     put_len(out, wide, rows.len())?;
     let mut near = 0;
-    for state in rows {
-        near = put_state(out, wide, table, near, *state)?;
+    for state in rows.iter().copied() {
+        near = put_state(out, wide, table, near, state)?;
     }
     Ok(())
 }
@@ -201,8 +201,8 @@ fn put_counts(
 {
     put_len(out, wide, rows.len())?;
     let mut near = 0;
-    for count in rows {
-        near = put_count(out, wide, table, near, *count)?;
+    for count in rows.iter().copied() {
+        near = put_count(out, wide, table, near, count)?;
     }
     Ok(())
 }
@@ -220,8 +220,8 @@ fn put_pairs(
 {
     put_u32(out, rows.len() as u32)?;
     let mut near = 0;
-    for pair in rows {
-        near = put_pair(out, wide, table, near, *pair)?;
+    for pair in rows.iter().copied() {
+        near = put_pair(out, wide, table, near, pair)?;
     }
     Ok(())
 }
