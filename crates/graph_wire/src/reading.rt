@@ -146,7 +146,7 @@ pub fn table_at(
     table_rows(alloc, cursor, count)
 }
 
-/// The table's actor at the index that is read.
+/// The table's actor at the index that is read; it is marked.
 #[tactic(auto, unfolding(wire_grammar::specs::Reading::index_at))]
 fn index_at(
     cursor: &mut Cursor<'_>,
