@@ -1,5 +1,5 @@
 -- Reading rows one after the other, as a loop does.
-use Rattle.std.proofs.Common.{◌≡◌, ℕ, suc, ◌-◌, ◌+◌, ◌≤◌, ◌<◌, Bool, true, List, [], ◌∷◌, ◌++◌, Option, Some, None, Result, Ok, Err, refl, sym, ap, ◌∙◌, append_assoc, arith}
+use Rattle.std.proofs.Common.{◌≡◌, ℕ, suc, ◌-◌, ◌+◌, ◌≤◌, ◌<◌, Bool, true, List, [], ◌∷◌, ◌++◌, Option, Some, None, Result, Ok, Err, refl, sym, ap, subst, ◌∙◌, append_assoc, arith}
 use Rattle.std.specs.Bool.{Decides}
 use Rattle.std.specs.List.{AllByRecursion}
 use Rattle.std.proofs.ByRecursion.{All-push}
@@ -19,6 +19,11 @@ use Rattle.wire_grammar.proofs.Rows.{all_like, pair_below-decides}
 use Rattle.graph_wire.specs.Gives.{Fails, with_front}
 use Rattle.graph_wire.specs.declared.fault.ReadFault.{ReadFault}
 use Rattle.graph_wire.specs.declared.fault.ReadFault.TheVariants as faults
+
+-- before the first row
+pub nothing-before : {X : Type 0} (read : Result (List X × Place) WireFault) → with_front [] read ≡ read
+nothing-before (Ok xs) = refl
+nothing-before (Err f) = refl
 
 regroup : {X : Type 0} (front : List X) (x : X) (read : Result (List X × Place) WireFault) → with_front front (read >>= λ xs. Ok (x ∷ xs.0, xs.1)) ≡ with_front (front ++ x ∷ []) read
 regroup {X = X} front x (Ok xs) = ap (λ (ys : List X). Ok (ys, xs.1)) (simp append_assoc)
@@ -51,6 +56,19 @@ module _ {X K : Type 0} (key : X → K) (row : Option K → Reader X) (front : L
       let one : with_front front (rows_at key row (count - i) last p) ≡ Ok (front, p) = rw k (ap (λ (xs : List X). Ok (xs, p)) (append-nil front)) in
       sym so_far ∙ one
 
+-- the same of rows over a table that is another list by now, of the same actors
+module _ {X K : Type 0} (key : X → K) (row : List Actor → Option K → Reader X) (now first : List Actor) (same : now ≡ first)
+    (front : List X) (count i : ℕ) (last : Option K) (p : Place) (total : Result (List X × Place) WireFault)
+  where
+    pub goes_on_over : (x : X) (q : Place) → i < count → row now last p ≡ Ok (x, q) → with_front front (rows_at key (row first) (count - i) last p) ≡ total
+        → with_front (front ++ x ∷ []) (rows_at key (row first) (count - (i + 1)) (Some (key x)) q) ≡ total
+    goes_on_over x q lt h so_far =
+        goes_on key (row first) front count i last p total x q lt (ap (λ t. row t last p) (sym same) ∙ h) so_far
+
+    pub ends_over : (e : ReadFault) → i < count → Fails e (row now last p) → with_front front (rows_at key (row first) (count - i) last p) ≡ total → Fails e total
+    ends_over e lt h so_far =
+        ends key (row first) front count i last p total e lt (subst (λ t. Fails e (row t last p)) same h) so_far
+
 -- the rows rise, and a row whose key is above the last one is above them all
 pub record AreReady {X K : Type 0} (key : X → K) (below : K → K → Bool) (Above : X → X → Type 0) (last : Option K) (rows : List X) : Type 0 where
   pub rise : IsRising Above rows
@@ -71,7 +89,19 @@ module _ {X K : Type 0} (key : X → K) (below : K → K → Bool) (Above : X �
       cap = λ z k. let yz = (up y z).0 k in All-push (λ x. Above x z) rows y (all_like (λ x. Above x y) (λ x. Above x z) (λ x g. trans x y z g yz) rows (h.cap y t)) yz;
     }
 
--- ---- the three kinds of rows
+-- ---- a table's actors, and the three kinds of rows
+
+abbrev pub actor_key : Actor → Actor
+actor_key a = a
+
+abbrev pub ActorsReady : Option Actor → List Actor → Type 0
+ActorsReady = AreReady actor_key is_actor_below IsActorBelow
+
+pub actors-push : (last : Option Actor) (actors : List Actor) (y : Actor) → ActorsReady last actors → is_above is_actor_below last y ≡ true → ActorsReady (Some y) (actors ++ y ∷ [])
+actors-push = ready-push actor_key is_actor_below IsActorBelow is_actor_below-decides IsActorBelow-trans
+
+pub actors-none : ActorsReady None []
+actors-none = record { rise = tt; cap = λ y h. tt }
 
 abbrev pub state_key : StateRow → Actor
 state_key r = r.actor

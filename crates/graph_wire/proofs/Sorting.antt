@@ -1,16 +1,14 @@
 -- Names that are sorted, each kept once, are their table.
-use Rattle.std.proofs.Common.{◌≡◌, ◌<◌, ◌≤◌, ◌+◌, ◌*◌, ℕ, zero, suc, Bool, true, false, cond, eqb, ltb, List, [], ◌∷◌, length, get_or, drop, drop-cons, add-one, Some, None, Result, Ok, Err, refl, sym, ap, subst, ◌∙◌, inl, inr, arith}
-use Rattle.std.specs.List.{AllByRecursion, Contains, HoldsAt, dedup, dedup_from, list_any, slice_get}
-use Rattle.std.specs.List.Sorted.{IsBinarySearchResult, IsNonDecreasingBy, IsPartitionPoint, IsPermutation, IsSearchInRange, IsSorted, IsStrictlySortedBy}
+use Rattle.std.proofs.Common.{◌≡◌, ◌<◌, ◌≤◌, ◌+◌, ℕ, zero, suc, Bool, true, false, cond, eqb, ltb, List, [], ◌∷◌, length, get_or, Some, refl, sym, ap, subst, ◌∙◌, inl, inr, arith}
+use Rattle.std.specs.List.{AllByRecursion, Contains, HoldsAt, dedup, dedup_from, slice_get}
+use Rattle.std.specs.List.Sorted.{IsNonDecreasingBy, IsPartitionPoint, IsPermutation, IsSorted, IsStrictlySortedBy}
 use Rattle.std.specs.Cmp.{IsTotalOrder}
 use Rattle.std.specs.Ordering.{eq_by_cmp, is_eq, is_lt, nat_cmp, ordering_index, ordering_then}
 use Rattle.std.specs.declared.cmp.Ordering.{Ordering}
 use Rattle.std.specs.declared.cmp.Ordering.TheVariants.{Less, Equal, Greater}
-use Rattle.std.proofs.lemmas.Bool.{cases_lt, le-ltb, lt-ltb, ne_eqb}
+use Rattle.std.proofs.lemmas.Bool.{le-ltb, lt-ltb, ne_eqb}
 use Rattle.std.proofs.lemmas.Bool.Decides.{Decides-eqb}
 use Rattle.std.proofs.lemmas.Cmp.{nat_cmp_total, on_total, then_total}
-use Rattle.std.proofs.lemmas.List.{drop_all}
-use Rattle.std.specs.Result.{is_ok}
 use Rattle.std.proofs.lemmas.List.Kept.{IsStrictlySortedBy-dedup}
 use Rattle.std.proofs.lemmas.List.Sorted.{Contains-permutation, IsPermutation-sym, searchable_from_sorted}
 use Rattle.std.proofs.lemmas.Option.{slice_get-get_or}
@@ -18,9 +16,7 @@ use Rattle.crgc_ids.specs.Actor.{Actor, IsActorBelow, is_actor_below, same_actor
 use Rattle.crgc_ids.specs.Members.{IsAmong}
 use Rattle.crgc_ids.proofs.ActorLaws.{actor_cases, is_actor_below-decides, same_actor-decides}
 use Rattle.wire_grammar.specs.Named.{index_of, table_of}
-use Rattle.wire_grammar.specs.Reading.{unnamed}
-use Rattle.wire_grammar.proofs.Names.{among-decides}
-use Rattle.wire_grammar.proofs.Tables.{IsTable, index_of-slice_get, not_below_itself, slice_get-member, table-same, table_of-has, table_of-only, table_of-rises}
+use Rattle.wire_grammar.proofs.Tables.{IsTable, index_of-slice_get, not_below_itself, table-same, table_of-has, table_of-only, table_of-rises}
 
 -- the order of actors, as a comparison
 abbrev pub actor_cmp : Actor → Actor → Ordering
@@ -59,7 +55,8 @@ below_from_cmp a b e =
       ]
     ]
 
-not_same : (a b : Actor) → (a ≡ b → ⊥) → same_actor a b ≡ false
+-- two actors that differ
+pub not_same : (a b : Actor) → (a ≡ b → ⊥) → same_actor a b ≡ false
 not_same a b h =
     let P : Bool → Type 0 = λ v. same_actor a b ≡ v → same_actor a b ≡ false in
     let cases : P (same_actor a b) = elim (same_actor a b) as P [ true ↦ (λ e. absurd (h ((same_actor-decides a b).0 e))) | false ↦ (λ e. e) ] in
@@ -190,45 +187,3 @@ index-missed table a i t le h =
     let up = searchable_from_sorted actor_total (λ (x : Actor). x) table a (λ k d low high. sorted-at table k (k + 1) d t (omega arith) high) in
     let parts = h up in
     sym (index-between table a i le (λ k lt. parts.0 k a (omega arith) lt) (λ k low high. parts.1 k a low high))
-
--- a search in a table tells whether an actor is there
-pub search-tells : (table : List Actor) (a : Actor) (r : Result ℕ ℕ) → IsTable table → IsSearchInRange r (length table) → IsBinarySearchResult (λ y. actor_cmp y a) table r
-    → is_ok r ≡ list_any (same_actor a) table
-search-tells table a (Ok i) t lt h =
-    sym ((among-decides table a).1 (slice_get-member table i a (slice_get-from_equal table a i lt (h a))))
-search-tells table a (Err i) t le h =
-    let up = searchable_from_sorted actor_total (λ (x : Actor). x) table a (λ k d low high. sorted-at table k (k + 1) d t (omega arith) high) in
-    let parts = h up in
-    let P : Bool → Type 0 = λ v. list_any (same_actor a) table ≡ v → false ≡ v in
-    let cases : P (list_any (same_actor a) table) = elim (list_any (same_actor a) table) as P [
-      | true ↦ (λ e. let m = contains-from_among table a ((among-decides table a).0 e) in
-          let equal = cmp_same (get_or table m.0 a) a m.2 in
-          elim (cases_lt m.0 i) [
-            | inl lt ↦ (let bad = sym equal ∙ parts.0 m.0 a (omega arith) lt in absurd cc)
-            | inr ge ↦ (let bad = sym equal ∙ parts.1 m.0 a ge m.1 in absurd cc)
-          ])
-      | false ↦ (λ e. refl)
-    ] in
-    cases refl
-
--- ---- the first actor that is not named, from an index on
-
-module _ (named table : List Actor) (first i : ℕ) where
-  pub unnamed-later : (a : Actor) → i < length table → a ≡ get_or table i a → list_any (same_actor a) named ≡ true → unnamed named (first + 5 * (i + 1)) (drop (i + 1) table) ≡ unnamed named (first + 5 * i) (drop i table)
-  unfolding unnamed
-  unnamed-later a lt e h =
-      let split : drop i table ≡ a ∷ drop (i + 1) table = rw (add-one, drop-cons table i a) (ap (λ x. x ∷ drop (suc i) table) (sym e)) in
-      let more : first + 5 * (i + 1) ≡ first + 5 * i + 5 = omega arith in
-      let one : unnamed named (first + 5 * i) (a ∷ drop (i + 1) table) ≡ unnamed named (first + 5 * i + 5) (drop (i + 1) table) = rw h refl in
-      ap (λ n. unnamed named n (drop (i + 1) table)) more ∙ sym one ∙ ap (unnamed named (first + 5 * i)) (sym split)
-
-  pub unnamed-here : (a : Actor) → i < length table → a ≡ get_or table i a → list_any (same_actor a) named ≡ false → unnamed named (first + 5 * i) (drop i table) ≡ Some (first + 5 * i)
-  unfolding unnamed
-  unnamed-here a lt e h =
-      let split : drop i table ≡ a ∷ drop (i + 1) table = rw (add-one, drop-cons table i a) (ap (λ x. x ∷ drop (suc i) table) (sym e)) in
-      let one : unnamed named (first + 5 * i) (a ∷ drop (i + 1) table) ≡ Some (first + 5 * i) = rw h refl in
-      ap (unnamed named (first + 5 * i)) split ∙ one
-
-  pub unnamed-end : length table ≤ i → unnamed named (first + 5 * i) (drop i table) ≡ None
-  unfolding unnamed
-  unnamed-end le = ap (unnamed named (first + 5 * i)) (drop_all i table le)

@@ -1,6 +1,5 @@
 -- What the code's readers answer, against reading.
 use Rattle.std.specs.Prelude.{◌≡◌, Result, Ok, Err, List, ◌++◌}
-use Rattle.std.specs.Global.{Vec}
 use Rattle.crgc_bytes.specs.Place.{Place}
 use Rattle.wire_grammar.specs.declared.fault.WireFault.{WireFault}
 use Rattle.wire_grammar.specs.Fields.{◌>>=◌}
@@ -20,11 +19,6 @@ Gives q (Err e) read = Fails e read
 -- rows that were read before, in front of those that are read
 abbrev pub with_front : {X : Type 0} → List X → Result (List X × Place) WireFault → Result (List X × Place) WireFault
 with_front front read = read >>= λ x. Ok (front ++ x.0, x.1)
-
--- the same of a list that is answered as a vector
-abbrev pub GivesItems : {X : Type 0} → Place → Result (Vec X) ReadFault → Result (List X × Place) WireFault → Type 0
-GivesItems q (Ok xs) read = read ≡ Ok (xs.items, q)
-GivesItems q (Err e) read = Fails e read
 
 -- what was answered is what reading gives, unless memory ran out
 abbrev pub GivesPrefix : {X : Type 0} → Result X ReadFault → Result X WireFault → Type 0

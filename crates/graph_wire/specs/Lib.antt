@@ -1,3 +1,5 @@
+pub mod Gives
+pub mod Marks
+pub mod Pushed
 pub mod Rises
 pub mod Writable
-pub mod Gives

@@ -1,19 +1,16 @@
 //! Bytes to whole bulletins.
-ghost use Rattle.std.specs.Prelude.{◌≡◌, ◌<◌, ◌+◌, ◌*◌, ◌^◌, ◌++◌, ℕ, List, length, drop, Ok, IfOk};
-ghost use Rattle.std.specs.List.{list_any};
-ghost use Rattle.crgc_ids.specs.Actor.{IsActorBelow, same_actor};
-ghost use Rattle.crgc_ids.specs.Rising.{IsRising};
+ghost use Rattle.std.specs.Prelude.{◌≡◌, ◌++◌, ℕ, List, length, drop, Ok, IfOk};
 ghost use Rattle.history_model.specs.declared.records.Bulletin.{Bulletin};
-ghost use Rattle.wire_grammar.specs.Reading.{unnamed, delta_at, window_at, link_at, magic_at, kind_at, body_at, bulletin_at, reading};
+ghost use Rattle.wire_grammar.specs.Reading.{delta_at, window_at, link_at, magic_at, kind_at, body_at, bulletin_at, reading};
 ghost use Rattle.wire_grammar.specs.Spelling.{spelled};
 ghost use Rattle.wire_grammar.specs.Spellable.{IsSpellable};
 ghost use Rattle.graph_wire.specs.Gives.{Gives, GivesPrefix};
 
 use crate::fault::{ReadFault, fault};
-use crate::names::{delta_table, window_table};
 use crate::reading::{counts_at, node_at, pairs_at, states_at, table_at, u8_at, u32_at};
+use crate::table::unnamed;
 use crgc_bytes::Cursor;
-use crgc_ids::{ActorId, NodeId};
+use crgc_ids::NodeId;
 use history_model::{Bulletin, Delta, Window};
 use std::alloc::Global;
 use wire_grammar::WireKind;
@@ -24,52 +21,27 @@ const NARROW: u32 = 0x4352_4731;
 /// "CRG2" as a number.
 const WIDE: u32 = 0x4352_4732;
 
-/// Whether a rising list has the actor, found by its order.
-fn holds(named: &[ActorId], actor: ActorId) -> bool
-    requires { IsRising IsActorBelow named.now }
-    ensures { result ≡ list_any (same_actor actor) named.now }
-{
-    named.binary_search(&actor).is_ok()
-}
-
-/// Where the first actor of the table stands that is not among the named ones; the first actor of all stands at the
-/// offset.
-fn unnamed(table: &[ActorId], named: &[ActorId], first: usize) -> Option<usize>
-    requires rises { IsRising IsActorBelow named.now }
-    requires room { first + 5 * length table.now < 2 ^ 64 }
-    ensures { result ≡ unnamed named.now first table.now }
-{
-    for (i, actor) in table.iter().enumerate() {
-        if !holds(named, *actor) {
-            return Some(first + 5 * i);
-        }
-    }
-    None
-}
-
 #[tactic(auto, unfolding(wire_grammar::specs::Reading::delta_at))]
 fn delta_at(alloc: Global, cursor: &mut Cursor<'_>, wide: bool) -> Result<Delta, ReadFault>
     ensures { Gives cursor.new result (delta_at wide cursor.old) }
 {
     let node = node_at(cursor)?;
-    let table = table_at(alloc, cursor, wide)?;
-    let actors = table.as_slice();
-    let first = cursor.offset() - 5 * actors.len();
+    let mut table = table_at(alloc, cursor, wide)?;
+    let first = cursor.offset() - 5 * table.len();
+    let actors = table.as_mut_slice();
     let states = states_at(alloc, cursor, wide, actors)?;
     let sent = counts_at(alloc, cursor, wide, actors)?;
     let created = pairs_at(alloc, cursor, wide, actors)?;
     let released = pairs_at(alloc, cursor, wide, actors)?;
-    let d = Delta {
-        node,
-        states,
-        sent,
-        created,
-        released,
-    };
-    let named = delta_table(alloc, &d)?;
-    match unnamed(actors, named.as_slice(), first) {
+    match unnamed(actors, first) {
         Some(offset) => Err(fault(WireKind::Unused, offset)),
-        None => Ok(d),
+        None => Ok(Delta {
+            node,
+            states,
+            sent,
+            created,
+            released,
+        }),
     }
 }
 
@@ -91,21 +63,19 @@ fn window_at(alloc: Global, cursor: &mut Cursor<'_>, wide: bool) -> Result<Windo
     ensures { Gives cursor.new result (window_at wide cursor.old) }
 {
     let (at, from) = link_at(cursor)?;
-    let table = table_at(alloc, cursor, wide)?;
-    let actors = table.as_slice();
-    let first = cursor.offset() - 5 * actors.len();
+    let mut table = table_at(alloc, cursor, wide)?;
+    let first = cursor.offset() - 5 * table.len();
+    let actors = table.as_mut_slice();
     let messages = counts_at(alloc, cursor, wide, actors)?;
     let carried = pairs_at(alloc, cursor, wide, actors)?;
-    let w = Window {
-        at,
-        from,
-        messages,
-        carried,
-    };
-    let named = window_table(alloc, &w)?;
-    match unnamed(actors, named.as_slice(), first) {
+    match unnamed(actors, first) {
         Some(offset) => Err(fault(WireKind::Unused, offset)),
-        None => Ok(w),
+        None => Ok(Window {
+            at,
+            from,
+            messages,
+            carried,
+        }),
     }
 }
 
@@ -166,8 +136,7 @@ fn prefix(alloc: Global, bytes: &[u8]) -> Result<(Bulletin, usize), ReadFault>
 }
 
 /// The bulletin whose spelling begins the bytes, with the length of that spelling; else the first fault from the left.
-/// It takes memory in proportion to the bytes that are there, whatever they claim, and time in proportion to n log n for
-/// n bytes.
+/// It takes memory and time in proportion to the bytes that are there, whatever they claim.
 pub fn read(alloc: Global, bytes: &[u8]) -> Result<(Bulletin, usize), ReadFault>
     // What is answered has a spelling, with which the bytes begin.
     ensures found { IfOk result (λ x. IsSpellable x.0 × (bytes.now ≡ spelled x.0 ++ drop x.1 bytes.now) × (x.1 ≡ length (spelled x.0))) }

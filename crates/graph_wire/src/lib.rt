@@ -5,6 +5,7 @@ mod bulletins;
 mod fault;
 mod names;
 mod reading;
+mod table;
 mod writing;
 
 pub use bulletins::read;

@@ -1,8 +1,9 @@
 //! The actors that a bulletin names, and the table of them.
 ghost use Rattle.std.specs.Prelude.{◌≡◌, [], ◌∷◌, ◌++◌, OnOk, IfOk};
 ghost use Rattle.std.specs.List.{AllByRecursion};
-ghost use Rattle.wire_grammar.specs.Named.{state_names, count_names, pair_names, delta_names, window_names, names_of, table_of};
+ghost use Rattle.wire_grammar.specs.Named.{state_names, count_names, delta_names, window_names, names_of, table_of};
 ghost use Rattle.wire_grammar.specs.Spellable.{IsActor};
+ghost use Rattle.graph_wire.specs.Pushed.{owner_names, target_names, pushed_pairs, pushed_delta, pushed_window};
 ghost use Rattle.graph_wire.specs.Rises.{KeysRise, DeltaRises, WindowRises};
 
 use crgc_ids::{ActorCount, ActorId, NoMemory, PairCount};
@@ -43,20 +44,38 @@ fn push_counts(names: &mut Vec<ActorId>, rows: &[ActorCount]) -> Result<(), NoMe
     Ok(())
 }
 
-fn push_pairs(names: &mut Vec<ActorId>, rows: &[PairCount]) -> Result<(), NoMemory>
-    ensures ok { OnOk result (names.new.items ≡ names.old.items ++ pair_names rows.now) }
-    ensures actors { OnOk result (AllByRecursion IsActor (pair_names rows.now)) }
+fn push_owners(names: &mut Vec<ActorId>, rows: &[PairCount]) -> Result<(), NoMemory>
+    ensures ok { OnOk result (names.new.items ≡ names.old.items ++ owner_names rows.now) }
+    ensures actors { OnOk result (AllByRecursion IsActor (owner_names rows.now)) }
 {
     for row in rows {
         push_name(names, row.owner)?;
+    }
+    Ok(())
+}
+
+fn push_targets(names: &mut Vec<ActorId>, rows: &[PairCount]) -> Result<(), NoMemory>
+    ensures ok { OnOk result (names.new.items ≡ names.old.items ++ target_names rows.now) }
+    ensures actors { OnOk result (AllByRecursion IsActor (target_names rows.now)) }
+{
+    for row in rows {
         push_name(names, row.target)?;
     }
     Ok(())
 }
 
+// The owners of a section rise, so they stand apart from its targets.
+fn push_pairs(names: &mut Vec<ActorId>, rows: &[PairCount]) -> Result<(), NoMemory>
+    ensures ok { OnOk result (names.new.items ≡ names.old.items ++ pushed_pairs rows.now) }
+    ensures actors { OnOk result (AllByRecursion IsActor (pushed_pairs rows.now)) }
+{
+    push_owners(names, rows)?;
+    push_targets(names, rows)
+}
+
 fn push_delta(names: &mut Vec<ActorId>, d: &Delta) -> Result<(), NoMemory>
-    ensures ok { OnOk result (names.new.items ≡ names.old.items ++ delta_names d.now) }
-    ensures actors { OnOk result (AllByRecursion IsActor (delta_names d.now)) }
+    ensures ok { OnOk result (names.new.items ≡ names.old.items ++ pushed_delta d.now) }
+    ensures actors { OnOk result (AllByRecursion IsActor (pushed_delta d.now)) }
     ensures rises { OnOk result (DeltaRises d.now) }
 {
     push_states(names, d.states.as_slice())?;
@@ -66,47 +85,52 @@ fn push_delta(names: &mut Vec<ActorId>, d: &Delta) -> Result<(), NoMemory>
 }
 
 fn push_window(names: &mut Vec<ActorId>, w: &Window) -> Result<(), NoMemory>
-    ensures ok { OnOk result (names.new.items ≡ names.old.items ++ window_names w.now) }
-    ensures actors { OnOk result (AllByRecursion IsActor (window_names w.now)) }
+    ensures ok { OnOk result (names.new.items ≡ names.old.items ++ pushed_window w.now) }
+    ensures actors { OnOk result (AllByRecursion IsActor (pushed_window w.now)) }
     ensures rises { OnOk result (WindowRises w.now) }
 {
     push_counts(names, w.messages.as_slice())?;
     push_pairs(names, w.carried.as_slice())
 }
 
-/// The actors of a list, rising, each once. Time in proportion to n log n.
-fn sorted(names: Vec<ActorId>) -> Vec<ActorId>
-    ensures { result.items ≡ table_of names.items }
+/// The actors of a list, rising, each once. The list's long stretches that rise are merged, and the rest is sorted: linear
+/// time where all of it stands in a few such stretches, and else in proportion to n log n.
+fn sorted(names: Vec<ActorId>) -> Result<Vec<ActorId>, NoMemory>
+    ensures { IfOk result (λ v. v.items ≡ table_of names.items) }
 {
     let mut table = names;
-    table.sort_unstable();
-    table.dedup();
-    table
+    match table.sort() {
+        Ok(()) => {
+            table.dedup();
+            Ok(table)
+        }
+        Err(_) => Err(NoMemory),
+    }
 }
 
 /// The table of the actors that a Delta names.
-pub fn delta_table(alloc: Global, d: &Delta) -> Result<Vec<ActorId>, NoMemory>
+fn delta_table(alloc: Global, d: &Delta) -> Result<Vec<ActorId>, NoMemory>
     ensures value { IfOk result (λ v. v.items ≡ table_of (delta_names d.now)) }
     ensures actors { OnOk result (AllByRecursion IsActor (delta_names d.now)) }
     ensures rises { OnOk result (DeltaRises d.now) }
 {
     let mut names = Vec::new(alloc);
     push_delta(&mut names, d)?;
-    Ok(sorted(names))
+    sorted(names)
 }
 
 /// The table of the actors that a Window or a Final names.
-pub fn window_table(alloc: Global, w: &Window) -> Result<Vec<ActorId>, NoMemory>
+fn window_table(alloc: Global, w: &Window) -> Result<Vec<ActorId>, NoMemory>
     ensures value { IfOk result (λ v. v.items ≡ table_of (window_names w.now)) }
     ensures actors { OnOk result (AllByRecursion IsActor (window_names w.now)) }
     ensures rises { OnOk result (WindowRises w.now) }
 {
     let mut names = Vec::new(alloc);
     push_window(&mut names, w)?;
-    Ok(sorted(names))
+    sorted(names)
 }
 
-/// The table of the actors that a bulletin names: rising, each once. Time in proportion to n log n for n names.
+/// The table of the actors that a bulletin names: rising, each once.
 pub fn table(alloc: Global, b: &Bulletin) -> Result<Vec<ActorId>, NoMemory>
     ensures value { IfOk result (λ v. v.items ≡ table_of (names_of b.now)) }
     ensures actors { OnOk result (AllByRecursion IsActor (names_of b.now)) }

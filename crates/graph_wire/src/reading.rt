@@ -1,12 +1,15 @@
 //! Bytes to bulletins.
-ghost use Rattle.std.specs.Prelude.{◌≡◌, ◌<◌, true, IfOk, None};
+ghost use Rattle.std.specs.Prelude.{◌≡◌, ◌<◌, true, [], ◌∷◌, IfOk, None};
 ghost use Rattle.crgc_ids.specs.Actor.{is_actor_below};
 ghost use Rattle.wire_grammar.specs.Fields.{is_above, number_at, rows_at};
+ghost use Rattle.wire_grammar.specs.Named.{state_names, count_names, pair_names};
 ghost use Rattle.wire_grammar.specs.Spelling.{index_len};
 ghost use Rattle.wire_grammar.specs.Reading.{node_at, actor_at, table_row, table_len_at, table_at, index_at, flags_at, count_at, key_at, is_pair_below, pair_key_at, state_row, count_row, pair_row, states_at, counts_at, pairs_at};
-ghost use Rattle.graph_wire.specs.Gives.{Gives, GivesItems};
+ghost use Rattle.graph_wire.specs.Gives.{Gives};
+ghost use Rattle.graph_wire.specs.Marks.{actors_of, GivesTable, IsFresh, Marks};
 
 use crate::fault::{ReadFault, fault};
+use crate::table::{TableActor, mark};
 use crgc_bytes::Cursor;
 use crgc_ids::{ActorCount, ActorCounts, ActorId, NodeId, PairCount, PairCounts};
 use history_model::{StateRow, StateRows};
@@ -88,7 +91,8 @@ fn is_above(last: Option<ActorId>, actor: ActorId) -> bool
 }
 
 fn table_row(cursor: &mut Cursor<'_>, last: Option<ActorId>) -> Result<ActorId, ReadFault>
-    ensures { Gives cursor.new result (table_row last cursor.old) }
+    ensures gives { Gives cursor.new result (table_row last cursor.old) }
+    ensures above { IfOk result (λ a. is_above is_actor_below last a ≡ true) }
 {
     let offset = cursor.offset();
     let actor = actor_at(cursor)?;
@@ -109,41 +113,53 @@ fn table_len(cursor: &mut Cursor<'_>, wide: bool) -> Result<u32, ReadFault>
     Ok(count)
 }
 
-fn table_rows(alloc: Global, cursor: &mut Cursor<'_>, count: u32) -> Result<Vec<ActorId>, ReadFault>
-    ensures { GivesItems cursor.new result (rows_at (λ a. a) table_row count None cursor.old) }
+fn table_rows(
+    alloc: Global,
+    cursor: &mut Cursor<'_>,
+    count: u32,
+) -> Result<Vec<TableActor>, ReadFault>
+    ensures gives { GivesTable cursor.new result (rows_at (λ a. a) table_row count None cursor.old) }
+    ensures fresh { IfOk result (λ t. IsFresh t.items) }
 {
     let mut table = Vec::new(alloc);
     let mut last = None;
     for i in 0..count {
         let actor = table_row(cursor, last)?;
-        table.push(actor)?;
+        let named = false;
+        table.push(TableActor { actor, named })?;
         last = Some(actor);
     }
     Ok(table)
 }
 
-/// The rising table of a bulletin's actors.
+/// The rising table of a bulletin's actors, which no row names yet.
 #[tactic(auto, unfolding(wire_grammar::specs::Reading::table_at))]
 pub fn table_at(
     alloc: Global,
     cursor: &mut Cursor<'_>,
     wide: bool,
-) -> Result<Vec<ActorId>, ReadFault>
-    ensures { GivesItems cursor.new result (table_at wide cursor.old) }
+) -> Result<Vec<TableActor>, ReadFault>
+    ensures gives { GivesTable cursor.new result (table_at wide cursor.old) }
+    ensures fresh { IfOk result (λ t. IsFresh t.items) }
 {
     let count = table_len(cursor, wide)?;
     table_rows(alloc, cursor, count)
 }
 
-/// The table's actor at the index that is read.
+/// The table's actor at the index that is read; it is marked.
 #[tactic(auto, unfolding(wire_grammar::specs::Reading::index_at))]
-fn index_at(cursor: &mut Cursor<'_>, wide: bool, table: &[ActorId]) -> Result<ActorId, ReadFault>
-    ensures { Gives cursor.new result (index_at wide table.now cursor.old) }
+fn index_at(
+    cursor: &mut Cursor<'_>,
+    wide: bool,
+    table: &mut [TableActor],
+) -> Result<ActorId, ReadFault>
+    ensures gives { Gives cursor.new result (index_at wide (actors_of table.old) cursor.old) }
+    ensures marks { IfOk result (λ a. Marks (a ∷ []) table.old table.new) }
 {
     let offset = cursor.offset();
     let index = len_at(cursor, wide)?;
-    match table.get(index as usize) {
-        Some(actor) => Ok(*actor),
+    match mark(table, index as usize) {
+        Some(actor) => Ok(actor),
         None => Err(fault(WireKind::Index, offset)),
     }
 }
@@ -152,10 +168,11 @@ fn index_at(cursor: &mut Cursor<'_>, wide: bool, table: &[ActorId]) -> Result<Ac
 fn key_at(
     cursor: &mut Cursor<'_>,
     wide: bool,
-    table: &[ActorId],
+    table: &mut [TableActor],
     last: Option<ActorId>,
 ) -> Result<ActorId, ReadFault>
-    ensures gives { Gives cursor.new result (key_at wide table.now last cursor.old) }
+    ensures gives { Gives cursor.new result (key_at wide (actors_of table.old) last cursor.old) }
+    ensures marks { IfOk result (λ a. Marks (a ∷ []) table.old table.new) }
     ensures above { IfOk result (λ a. is_above is_actor_below last a ≡ true) }
 {
     let offset = cursor.offset();
@@ -186,10 +203,11 @@ fn is_pair_above(last: Option<(ActorId, ActorId)>, pair: (ActorId, ActorId)) -> 
 fn pair_key_at(
     cursor: &mut Cursor<'_>,
     wide: bool,
-    table: &[ActorId],
+    table: &mut [TableActor],
     last: Option<(ActorId, ActorId)>,
 ) -> Result<(ActorId, ActorId), ReadFault>
-    ensures gives { Gives cursor.new result (pair_key_at wide table.now last cursor.old) }
+    ensures gives { Gives cursor.new result (pair_key_at wide (actors_of table.old) last cursor.old) }
+    ensures marks { IfOk result (λ p. Marks (p.0 ∷ p.1 ∷ []) table.old table.new) }
     ensures above { IfOk result (λ p. is_above is_pair_below last p ≡ true) }
 {
     let offset = cursor.offset();
@@ -228,10 +246,11 @@ fn count_at(cursor: &mut Cursor<'_>) -> Result<u32, ReadFault>
 fn state_row(
     cursor: &mut Cursor<'_>,
     wide: bool,
-    table: &[ActorId],
+    table: &mut [TableActor],
     last: Option<ActorId>,
 ) -> Result<StateRow, ReadFault>
-    ensures gives { Gives cursor.new result (state_row wide table.now last cursor.old) }
+    ensures gives { Gives cursor.new result (state_row wide (actors_of table.old) last cursor.old) }
+    ensures marks { IfOk result (λ r. Marks (r.actor ∷ []) table.old table.new) }
     ensures above { IfOk result (λ r. is_above is_actor_below last r.actor ≡ true) }
 {
     let actor = key_at(cursor, wide, table, last)?;
@@ -249,10 +268,11 @@ fn state_row(
 fn count_row(
     cursor: &mut Cursor<'_>,
     wide: bool,
-    table: &[ActorId],
+    table: &mut [TableActor],
     last: Option<ActorId>,
 ) -> Result<ActorCount, ReadFault>
-    ensures gives { Gives cursor.new result (count_row wide table.now last cursor.old) }
+    ensures gives { Gives cursor.new result (count_row wide (actors_of table.old) last cursor.old) }
+    ensures marks { IfOk result (λ r. Marks (r.actor ∷ []) table.old table.new) }
     ensures above { IfOk result (λ r. is_above is_actor_below last r.actor ≡ true) }
     ensures stands { IfOk result (λ r. 0 < r.count) }
 {
@@ -265,10 +285,11 @@ fn count_row(
 fn pair_row(
     cursor: &mut Cursor<'_>,
     wide: bool,
-    table: &[ActorId],
+    table: &mut [TableActor],
     last: Option<(ActorId, ActorId)>,
 ) -> Result<PairCount, ReadFault>
-    ensures gives { Gives cursor.new result (pair_row wide table.now last cursor.old) }
+    ensures gives { Gives cursor.new result (pair_row wide (actors_of table.old) last cursor.old) }
+    ensures marks { IfOk result (λ r. Marks (r.owner ∷ r.target ∷ []) table.old table.new) }
     ensures above { IfOk result (λ r. is_above is_pair_below last (r.owner, r.target) ≡ true) }
     ensures stands { IfOk result (λ r. 0 < r.count) }
 {
@@ -285,10 +306,11 @@ fn state_rows(
     alloc: Global,
     cursor: &mut Cursor<'_>,
     wide: bool,
-    table: &[ActorId],
+    table: &mut [TableActor],
     count: u32,
 ) -> Result<StateRows, ReadFault>
-    ensures { Gives cursor.new result (rows_at (λ r. r.actor) (state_row wide table.now) count None cursor.old) }
+    ensures gives { Gives cursor.new result (rows_at (λ r. r.actor) (state_row wide (actors_of table.old)) count None cursor.old) }
+    ensures marks { IfOk result (λ rows. Marks (state_names rows) table.old table.new) }
 {
     let mut rows = StateRows::new(alloc);
     let mut last = None;
@@ -307,9 +329,10 @@ pub fn states_at(
     alloc: Global,
     cursor: &mut Cursor<'_>,
     wide: bool,
-    table: &[ActorId],
+    table: &mut [TableActor],
 ) -> Result<StateRows, ReadFault>
-    ensures { Gives cursor.new result (states_at wide table.now cursor.old) }
+    ensures gives { Gives cursor.new result (states_at wide (actors_of table.old) cursor.old) }
+    ensures marks { IfOk result (λ rows. Marks (state_names rows) table.old table.new) }
 {
     let count = len_at(cursor, wide)?;
     state_rows(alloc, cursor, wide, table, count)
@@ -319,10 +342,11 @@ fn count_rows(
     alloc: Global,
     cursor: &mut Cursor<'_>,
     wide: bool,
-    table: &[ActorId],
+    table: &mut [TableActor],
     count: u32,
 ) -> Result<ActorCounts, ReadFault>
-    ensures { Gives cursor.new result (rows_at (λ r. r.actor) (count_row wide table.now) count None cursor.old) }
+    ensures gives { Gives cursor.new result (rows_at (λ r. r.actor) (count_row wide (actors_of table.old)) count None cursor.old) }
+    ensures marks { IfOk result (λ rows. Marks (count_names rows) table.old table.new) }
 {
     let mut rows = ActorCounts::new(alloc);
     let mut last = None;
@@ -341,9 +365,10 @@ pub fn counts_at(
     alloc: Global,
     cursor: &mut Cursor<'_>,
     wide: bool,
-    table: &[ActorId],
+    table: &mut [TableActor],
 ) -> Result<ActorCounts, ReadFault>
-    ensures { Gives cursor.new result (counts_at wide table.now cursor.old) }
+    ensures gives { Gives cursor.new result (counts_at wide (actors_of table.old) cursor.old) }
+    ensures marks { IfOk result (λ rows. Marks (count_names rows) table.old table.new) }
 {
     let count = len_at(cursor, wide)?;
     count_rows(alloc, cursor, wide, table, count)
@@ -353,10 +378,11 @@ fn pair_rows(
     alloc: Global,
     cursor: &mut Cursor<'_>,
     wide: bool,
-    table: &[ActorId],
+    table: &mut [TableActor],
     count: u32,
 ) -> Result<PairCounts, ReadFault>
-    ensures { Gives cursor.new result (rows_at (λ r. (r.owner, r.target)) (pair_row wide table.now) count None cursor.old) }
+    ensures gives { Gives cursor.new result (rows_at (λ r. (r.owner, r.target)) (pair_row wide (actors_of table.old)) count None cursor.old) }
+    ensures marks { IfOk result (λ rows. Marks (pair_names rows) table.old table.new) }
 {
     let mut rows = PairCounts::new(alloc);
     let mut last = None;
@@ -375,9 +401,10 @@ pub fn pairs_at(
     alloc: Global,
     cursor: &mut Cursor<'_>,
     wide: bool,
-    table: &[ActorId],
+    table: &mut [TableActor],
 ) -> Result<PairCounts, ReadFault>
-    ensures { Gives cursor.new result (pairs_at wide table.now cursor.old) }
+    ensures gives { Gives cursor.new result (pairs_at wide (actors_of table.old) cursor.old) }
+    ensures marks { IfOk result (λ rows. Marks (pair_names rows) table.old table.new) }
 {
     let count = u32_at(cursor)?;
     pair_rows(alloc, cursor, wide, table, count)

@@ -1,5 +1,5 @@
 //! Bulletins to bytes.
-ghost use Rattle.std.specs.Prelude.{◌≡◌, ◌<◌, ◌≤◌, ◌^◌, ◌++◌, length, OnOk, IfOk};
+ghost use Rattle.std.specs.Prelude.{◌≡◌, ◌<◌, ◌≤◌, ◌^◌, ◌++◌, ◌↔◌, length, slice_get, OnOk, IfOk, IsTrue};
 ghost use Rattle.byteorder.specs.Endian.{big_bytes};
 ghost use Rattle.crgc_ids.specs.Actor.{IsActorBelow};
 ghost use Rattle.crgc_ids.specs.Rising.{IsRising};
@@ -12,25 +12,25 @@ use crgc_ids::{ActorCount, ActorId, NoMemory, Octets, PairCount};
 use history_model::{Bulletin, Delta, StateRow, Window};
 use std::alloc::Global;
 
-fn put(out: &mut Octets, bytes: &[u8]) -> Result<(), NoMemory>
-    ensures { OnOk result (out.new ≡ out.old ++ bytes.now) }
+fn put(out: &mut Vec<u8>, bytes: &[u8]) -> Result<(), NoMemory>
+    ensures { OnOk result (out.new.items ≡ out.old.items ++ bytes.now) }
 {
-    for byte in bytes {
-        out.push(*byte)?;
+    match out.extend_from_slice(bytes) {
+        Ok(()) => Ok(()),
+        Err(_) => Err(NoMemory),
     }
-    Ok(())
 }
 
-fn put_u32(out: &mut Octets, number: u32) -> Result<(), NoMemory>
-    ensures { OnOk result (out.new ≡ out.old ++ big_bytes 4 number) }
+fn put_u32(out: &mut Vec<u8>, number: u32) -> Result<(), NoMemory>
+    ensures { OnOk result (out.new.items ≡ out.old.items ++ big_bytes 4 number) }
 {
     put(out, &number.to_be_bytes())
 }
 
 /// A number in two bytes, or in four in the wide form.
-fn put_len(out: &mut Octets, wide: bool, number: usize) -> Result<(), NoMemory>
+fn put_len(out: &mut Vec<u8>, wide: bool, number: usize) -> Result<(), NoMemory>
     requires { number < 256 ^ index_len wide }
-    ensures { OnOk result (out.new ≡ out.old ++ big_bytes (index_len wide) number) }
+    ensures { OnOk result (out.new.items ≡ out.old.items ++ big_bytes (index_len wide) number) }
 {
     if wide {
         put_u32(out, number as u32)
@@ -39,16 +39,16 @@ fn put_len(out: &mut Octets, wide: bool, number: usize) -> Result<(), NoMemory>
     }
 }
 
-fn put_actor(out: &mut Octets, actor: ActorId) -> Result<(), NoMemory>
-    ensures { OnOk result (out.new ≡ out.old ++ actor_text actor) }
+fn put_actor(out: &mut Vec<u8>, actor: ActorId) -> Result<(), NoMemory>
+    ensures { OnOk result (out.new.items ≡ out.old.items ++ actor_text actor) }
 {
     put(out, &actor.node().get().to_be_bytes())?;
     put_u32(out, actor.serial())
 }
 
-fn put_table(out: &mut Octets, wide: bool, table: &[ActorId]) -> Result<(), NoMemory>
+fn put_table(out: &mut Vec<u8>, wide: bool, table: &[ActorId]) -> Result<(), NoMemory>
     requires { length table.now < 256 ^ index_len wide }
-    ensures { OnOk result (out.new ≡ out.old ++ table_text wide table.now) }
+    ensures { OnOk result (out.new.items ≡ out.old.items ++ table_text wide table.now) }
 {
     put_len(out, wide, table.len())?;
     for actor in table {
@@ -69,55 +69,108 @@ fn index(table: &[ActorId], actor: ActorId) -> usize
     }
 }
 
+fn stands_at(table: &[ActorId], place: usize, actor: ActorId) -> bool
+    ensures { IsTrue result ↔ slice_get table.now place ≡ Some actor }
+{
+    match table.get(place) {
+        Some(other) => *other == actor,
+        None => false,
+    }
+}
+
+/// The index of an actor in a rising table. It is looked for at a place, and at the one after it, since a section's rows
+/// rise and so does the table; then it is found by its order.
+fn index_near(table: &[ActorId], place: usize, actor: ActorId) -> usize
+    requires { IsRising IsActorBelow table.now }
+    ensures value { result ≡ index_of table.now actor }
+    ensures bound { result ≤ length table.now }
+{
+    if stands_at(table, place, actor) {
+        return place;
+    }
+    let next = place.saturating_add(1);
+    if stands_at(table, next, actor) {
+        return next;
+    }
+    index(table, actor)
+}
+
+/// Puts an actor's index, which may be near a place, and answers it.
 fn put_index(
-    out: &mut Octets,
+    out: &mut Vec<u8>,
     wide: bool,
     table: &[ActorId],
+    near: usize,
     actor: ActorId,
-) -> Result<(), NoMemory>
+) -> Result<usize, NoMemory>
     requires rises { IsRising IsActorBelow table.now }
     requires room { length table.now < 256 ^ index_len wide }
-    ensures { OnOk result (out.new ≡ out.old ++ index_text wide table.now actor) }
+    ensures text { OnOk result (out.new.items ≡ out.old.items ++ index_text wide table.now actor) }
+    ensures index { IfOk result (λ i. i ≡ index_of table.now actor) }
 {
-    put_len(out, wide, index(table, actor))
+    let index = index_near(table, near, actor);
+    put_len(out, wide, index)?;
+    Ok(index)
 }
 
-fn put_state(out: &mut Octets, wide: bool, table: &[ActorId], row: StateRow) -> Result<(), NoMemory>
-    requires rises { IsRising IsActorBelow table.now }
-    requires room { length table.now < 256 ^ index_len wide }
-    ensures { OnOk result (out.new ≡ out.old ++ state_text wide table.now row) }
-{
-    put_index(out, wide, table, row.actor)?;
-    put_u32(out, row.received)?;
-    out.push(u8::from(row.busy) + 2 * u8::from(row.root))
-}
-
-fn put_count(
-    out: &mut Octets,
+/// Puts a state, and answers its actor's index.
+fn put_state(
+    out: &mut Vec<u8>,
     wide: bool,
     table: &[ActorId],
-    row: ActorCount,
-) -> Result<(), NoMemory>
+    near: usize,
+    row: StateRow,
+) -> Result<usize, NoMemory>
     requires rises { IsRising IsActorBelow table.now }
     requires room { length table.now < 256 ^ index_len wide }
-    ensures { OnOk result (out.new ≡ out.old ++ count_text wide table.now row) }
+    ensures text { OnOk result (out.new.items ≡ out.old.items ++ state_text wide table.now row) }
+    ensures index { IfOk result (λ i. i ≡ index_of table.now row.actor) }
 {
-    put_index(out, wide, table, row.actor)?;
-    put_u32(out, row.count)
+    let index = put_index(out, wide, table, near, row.actor)?;
+    put_u32(out, row.received)?;
+    put(out, &[u8::from(row.busy) + 2 * u8::from(row.root)])?;
+    Ok(index)
 }
 
-fn put_pair(out: &mut Octets, wide: bool, table: &[ActorId], row: PairCount) -> Result<(), NoMemory>
+/// Puts a count, and answers its actor's index.
+fn put_count(
+    out: &mut Vec<u8>,
+    wide: bool,
+    table: &[ActorId],
+    near: usize,
+    row: ActorCount,
+) -> Result<usize, NoMemory>
     requires rises { IsRising IsActorBelow table.now }
     requires room { length table.now < 256 ^ index_len wide }
-    ensures { OnOk result (out.new ≡ out.old ++ pair_text wide table.now row) }
+    ensures text { OnOk result (out.new.items ≡ out.old.items ++ count_text wide table.now row) }
+    ensures index { IfOk result (λ i. i ≡ index_of table.now row.actor) }
 {
-    put_index(out, wide, table, row.owner)?;
-    put_index(out, wide, table, row.target)?;
-    put_u32(out, row.count)
+    let index = put_index(out, wide, table, near, row.actor)?;
+    put_u32(out, row.count)?;
+    Ok(index)
+}
+
+/// Puts a pair, and answers its owner's index. The target may be near the owner.
+fn put_pair(
+    out: &mut Vec<u8>,
+    wide: bool,
+    table: &[ActorId],
+    near: usize,
+    row: PairCount,
+) -> Result<usize, NoMemory>
+    requires rises { IsRising IsActorBelow table.now }
+    requires room { length table.now < 256 ^ index_len wide }
+    ensures text { OnOk result (out.new.items ≡ out.old.items ++ pair_text wide table.now row) }
+    ensures index { IfOk result (λ i. i ≡ index_of table.now row.owner) }
+{
+    let index = put_index(out, wide, table, near, row.owner)?;
+    put_index(out, wide, table, index, row.target)?;
+    put_u32(out, row.count)?;
+    Ok(index)
 }
 
 fn put_states(
-    out: &mut Octets,
+    out: &mut Vec<u8>,
     wide: bool,
     table: &[ActorId],
     rows: &[StateRow],
@@ -125,17 +178,18 @@ fn put_states(
     requires rises { IsRising IsActorBelow table.now }
     requires room { length table.now < 256 ^ index_len wide }
     requires few { length rows.now < 256 ^ index_len wide }
-    ensures { OnOk result (out.new ≡ out.old ++ states_text wide table.now rows.now) }
+    ensures { OnOk result (out.new.items ≡ out.old.items ++ states_text wide table.now rows.now) }
 {
     put_len(out, wide, rows.len())?;
-    for row in rows {
-        put_state(out, wide, table, *row)?;
+    let mut near = 0;
+    for state in rows.iter().copied() {
+        near = put_state(out, wide, table, near, state)?;
     }
     Ok(())
 }
 
 fn put_counts(
-    out: &mut Octets,
+    out: &mut Vec<u8>,
     wide: bool,
     table: &[ActorId],
     rows: &[ActorCount],
@@ -143,17 +197,18 @@ fn put_counts(
     requires rises { IsRising IsActorBelow table.now }
     requires room { length table.now < 256 ^ index_len wide }
     requires few { length rows.now < 256 ^ index_len wide }
-    ensures { OnOk result (out.new ≡ out.old ++ counts_text wide table.now rows.now) }
+    ensures { OnOk result (out.new.items ≡ out.old.items ++ counts_text wide table.now rows.now) }
 {
     put_len(out, wide, rows.len())?;
-    for row in rows {
-        put_count(out, wide, table, *row)?;
+    let mut near = 0;
+    for count in rows.iter().copied() {
+        near = put_count(out, wide, table, near, count)?;
     }
     Ok(())
 }
 
 fn put_pairs(
-    out: &mut Octets,
+    out: &mut Vec<u8>,
     wide: bool,
     table: &[ActorId],
     rows: &[PairCount],
@@ -161,26 +216,27 @@ fn put_pairs(
     requires rises { IsRising IsActorBelow table.now }
     requires room { length table.now < 256 ^ index_len wide }
     requires few { length rows.now < 2 ^ 32 }
-    ensures { OnOk result (out.new ≡ out.old ++ pairs_text wide table.now rows.now) }
+    ensures { OnOk result (out.new.items ≡ out.old.items ++ pairs_text wide table.now rows.now) }
 {
     put_u32(out, rows.len() as u32)?;
-    for row in rows {
-        put_pair(out, wide, table, *row)?;
+    let mut near = 0;
+    for pair in rows.iter().copied() {
+        near = put_pair(out, wide, table, near, pair)?;
     }
     Ok(())
 }
 
-fn put_head(out: &mut Octets, wide: bool, kind: u8) -> Result<(), NoMemory>
-    ensures { OnOk result (out.new ≡ out.old ++ head_text wide kind) }
+fn put_head(out: &mut Vec<u8>, wide: bool, kind: u8) -> Result<(), NoMemory>
+    ensures { OnOk result (out.new.items ≡ out.old.items ++ head_text wide kind) }
 {
     put(out, if wide { b"CRG2" } else { b"CRG1" })?;
     put(out, &kind.to_be_bytes())
 }
 
 #[tactic(auto, unfolding(wire_grammar::specs::Spelling::delta_text))]
-fn put_delta(out: &mut Octets, wide: bool, table: &[ActorId], d: &Delta) -> Result<(), NoMemory>
+fn put_delta(out: &mut Vec<u8>, wide: bool, table: &[ActorId], d: &Delta) -> Result<(), NoMemory>
     requires { DeltaHasRoom wide table.now d.now }
-    ensures { OnOk result (out.new ≡ out.old ++ delta_text wide table.now d.now) }
+    ensures { OnOk result (out.new.items ≡ out.old.items ++ delta_text wide table.now d.now) }
 {
     put(out, &d.node.get().to_be_bytes())?;
     put_table(out, wide, table)?;
@@ -191,9 +247,9 @@ fn put_delta(out: &mut Octets, wide: bool, table: &[ActorId], d: &Delta) -> Resu
 }
 
 #[tactic(auto, unfolding(wire_grammar::specs::Spelling::window_text))]
-fn put_window(out: &mut Octets, wide: bool, table: &[ActorId], w: &Window) -> Result<(), NoMemory>
+fn put_window(out: &mut Vec<u8>, wide: bool, table: &[ActorId], w: &Window) -> Result<(), NoMemory>
     requires { WindowHasRoom wide table.now w.now }
-    ensures { OnOk result (out.new ≡ out.old ++ window_text wide table.now w.now) }
+    ensures { OnOk result (out.new.items ≡ out.old.items ++ window_text wide table.now w.now) }
 {
     put(out, &w.at.get().to_be_bytes())?;
     put(out, &w.from.get().to_be_bytes())?;
@@ -202,8 +258,8 @@ fn put_window(out: &mut Octets, wide: bool, table: &[ActorId], w: &Window) -> Re
     put_pairs(out, wide, table, w.carried.as_slice())
 }
 
-/// The one spelling of the bulletin, in the wide form where it names more than 65,535 actors. Its names are sorted:
-/// time in proportion to n log n for n names, and to the bytes.
+/// The one spelling of the bulletin, in the wide form where it names more than 65,535 actors. Time in proportion to
+/// n log n for n names at most, and to n where rows that follow one another name actors that do so in the table.
 #[tactic(auto, unfolding(wire_grammar::specs::Spelling::spelled))]
 pub fn write(alloc: Global, b: &Bulletin) -> Result<Octets, NoMemory>
     requires { IsWritable b.now }
@@ -211,7 +267,7 @@ pub fn write(alloc: Global, b: &Bulletin) -> Result<Octets, NoMemory>
 {
     let table = table(alloc, b)?;
     let wide = table.len() > 65_535;
-    let mut out = Octets::new(alloc);
+    let mut out = Vec::new(alloc);
     match b {
         Bulletin::Delta(d) => {
             put_head(&mut out, wide, 1)?;
@@ -226,5 +282,5 @@ pub fn write(alloc: Global, b: &Bulletin) -> Result<Octets, NoMemory>
             put_window(&mut out, wide, &table, w)?;
         }
     }
-    Ok(out)
+    Ok(Octets::from_vec(out))
 }

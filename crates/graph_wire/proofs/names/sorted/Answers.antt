@@ -3,5 +3,5 @@ use Rattle.std.proofs.lemmas.List.Filters.{dedup_is}
 use Rattle.graph_wire.proofs.Sorting.{table-sorted}
 use Rattle.graph_wire.proofs.names.sorted.Goals as goal
 
-pub returns : goal.returns
-returns c = dedup_is _ _ _ c.dedup.ensures.filtered ∙ table-sorted _ _ c.sort_unstable.ensures.permutation c.sort_unstable.ensures.sorted
+pub returns-in-Ok : goal.returns-in-Ok
+returns-in-Ok c = dedup_is _ _ _ c.dedup.ensures.filtered ∙ table-sorted _ _ c.sort.ensures.permutation c.in-Ok.ensures.sorted

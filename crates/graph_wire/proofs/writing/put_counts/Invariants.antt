@@ -1,9 +1,9 @@
-use Rattle.std.proofs.Common.{◌≡◌, ◌++◌, length, take}
+use Rattle.std.proofs.Common.{◌≡◌, ◌++◌, length}
 use Rattle.std.specs.List.{flat_map}
 use Rattle.byteorder.specs.Endian.{big_bytes}
 use Rattle.wire_grammar.specs.Spelling.{index_len, count_text}
 use Rattle.graph_wire.proofs.writing.put_counts.Given as goal
 
-abbrev pub invariant-loop-row : goal.invariant-loop-row
-invariant-loop-row l =
-    l.out ≡ (l.fn.out ++ big_bytes (index_len l.wide) (length l.rows)) ++ flat_map (count_text l.wide l.table) (take l.row-index l.rows)
+abbrev pub invariant-loop-count : goal.invariant-loop-count
+invariant-loop-count l =
+    l.out.items ≡ (l.fn.out.items ++ big_bytes (index_len l.wide) (length l.rows)) ++ flat_map (count_text l.wide l.table) l.yielded

@@ -6,4 +6,4 @@ use Rattle.graph_wire.proofs.writing.put_table.Given as goal
 
 abbrev pub invariant-loop-actor : goal.invariant-loop-actor
 invariant-loop-actor l =
-    l.out ≡ (l.fn.out ++ big_bytes (index_len l.wide) (length l.table)) ++ flat_map actor_text (take l.actor-index l.table)
+    l.out.items ≡ (l.fn.out.items ++ big_bytes (index_len l.wide) (length l.table)) ++ flat_map actor_text (take l.actor-index l.table)

@@ -1,0 +1,11 @@
+use Rattle.std.proofs.Common.{◌≡◌, ◌++◌, take}
+use Rattle.std.specs.List.{AllByRecursion}
+use Rattle.wire_grammar.specs.Spellable.{IsActor}
+use Rattle.graph_wire.specs.Pushed.{owner_names}
+use Rattle.graph_wire.proofs.names.push_owners.Given as goal
+
+abbrev pub invariant-loop-row : goal.invariant-loop-row
+invariant-loop-row l = record {
+  names : l.names.items ≡ l.fn.names.items ++ owner_names (take l.row-index l.rows);
+  actors : AllByRecursion IsActor (owner_names (take l.row-index l.rows));
+}
