@@ -77,9 +77,6 @@ pub record AreReady {X K : Type 0} (key : X → K) (below : K → K → Bool) (A
 module _ {X K : Type 0} (key : X → K) (below : K → K → Bool) (Above : X → X → Type 0)
     (up : (x y : X) → Decides (below (key x) (key y)) (Above x y)) (trans : (x y z : X) → Above x y → Above y z → Above x z)
   where
-    ready-none : AreReady key below Above None []
-    ready-none = record { rise = tt; cap = λ y h. tt }
-
     ready-rises : (last : Option K) (rows : List X) (y : X) → AreReady key below Above last rows → is_above below last (key y) ≡ true → IsRising Above (rows ++ y ∷ [])
     ready-rises last rows y h t = IsRising-push Above rows y h.rise (h.cap y t)
 
@@ -118,9 +115,6 @@ states-rise = ready-rises state_key is_actor_below StateAbove (λ x y. is_actor_
 pub states-push : (last : Option Actor) (rows : List StateRow) (y : StateRow) → StatesReady last rows → is_above is_actor_below last y.actor ≡ true → StatesReady (Some y.actor) (rows ++ y ∷ [])
 states-push = ready-push state_key is_actor_below StateAbove (λ x y. is_actor_below-decides x.actor y.actor) (λ x y z. IsActorBelow-trans x.actor y.actor z.actor)
 
-pub states-none : StatesReady None []
-states-none = record { rise = tt; cap = λ y h. tt }
-
 abbrev pub count_key : ActorCount → Actor
 count_key r = r.actor
 
@@ -136,9 +130,6 @@ counts-rise = ready-rises count_key is_actor_below CountAbove (λ x y. is_actor_
 pub counts-push : (last : Option Actor) (rows : List ActorCount) (y : ActorCount) → CountsReady last rows → is_above is_actor_below last y.actor ≡ true → CountsReady (Some y.actor) (rows ++ y ∷ [])
 counts-push = ready-push count_key is_actor_below CountAbove (λ x y. is_actor_below-decides x.actor y.actor) (λ x y z. IsActorBelow-trans x.actor y.actor z.actor)
 
-pub counts-none : CountsReady None []
-counts-none = record { rise = tt; cap = λ y h. tt }
-
 abbrev pub pair_key : PairCount → Actor × Actor
 pair_key r = (r.owner, r.target)
 
@@ -153,6 +144,3 @@ pairs-rise = ready-rises pair_key is_pair_below PairAbove (λ x y. pair_below-de
 
 pub pairs-push : (last : Option (Actor × Actor)) (rows : List PairCount) (y : PairCount) → PairsReady last rows → is_above is_pair_below last (y.owner, y.target) ≡ true → PairsReady (Some (y.owner, y.target)) (rows ++ y ∷ [])
 pairs-push = ready-push pair_key is_pair_below PairAbove (λ x y. pair_below-decides (x.owner, x.target) (y.owner, y.target)) (λ x y z. IsPairBelow-trans x.owner x.target y.owner y.target z.owner z.target)
-
-pub pairs-none : PairsReady None []
-pairs-none = record { rise = tt; cap = λ y h. tt }

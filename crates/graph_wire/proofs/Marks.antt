@@ -6,10 +6,10 @@ use Rattle.std.proofs.lemmas.List.{append-nil, drop_all, length-map, map_push}
 use Rattle.std.proofs.lemmas.List.Concat.{flat_map-cons}
 use Rattle.std.proofs.lemmas.List.Folds.{list_any-append}
 use Rattle.crgc_ids.specs.Actor.{Actor, IsActorBelow, same_actor}
-use Rattle.crgc_ids.proofs.ActorLaws.{same_actor-decides}
+use Rattle.crgc_ids.proofs.ActorLaws.{IsActorBelow-apart, same_actor-decides}
 use Rattle.wire_grammar.specs.Reading.{unnamed}
 use Rattle.wire_grammar.proofs.Rows.{all_like}
-use Rattle.wire_grammar.proofs.Tables.{IsTable, not_below_itself}
+use Rattle.wire_grammar.proofs.Tables.{IsTable}
 use Rattle.graph_wire.specs.Marks.{actors_of, AreNamed, IsFresh, is_marked, Marks}
 use Rattle.graph_wire.specs.declared.table.TableActor.{TableActor}
 use Rattle.graph_wire.proofs.Sorting.{not_same}
@@ -71,9 +71,6 @@ actor-at [] i d h = absurd (omega arith)
 actor-at (x ∷ rest) zero d h = refl
 actor-at (x ∷ rest) (suc i) d h = actor-at rest i d (omega arith)
 
-pub Marks-none : (table : List TableActor) → Marks [] table table
-Marks-none table = record { actors = refl; named = λ a. refl }
-
 pub Marks-then : (xs ys : List Actor) (t u v : List TableActor) → Marks xs t u → Marks ys u v → Marks (xs ++ ys) t v
 Marks-then xs ys t u v h k = record {
   actors = k.actors ∙ h.actors;
@@ -134,7 +131,7 @@ below-unmarked : (a : Actor) (table : List TableActor) → AllByRecursion (IsAct
 unfolding actors_of is_marked
 below-unmarked a [] h = refl
 below-unmarked a (x ∷ rest) h =
-    let one = not_same a x.actor (λ e. not_below_itself a (subst (IsActorBelow a) (sym e) h.0)) in
+    let one = not_same a x.actor (λ e. IsActorBelow-apart a (subst (IsActorBelow a) (sym e) h.0)) in
     rw one (below-unmarked a rest h.1)
 
 -- a first entry changes nothing for the later ones
@@ -143,7 +140,7 @@ later-marks : (x : TableActor) (table later : List TableActor) → AllByRecursio
 unfolding actors_of is_marked
 later-marks x table [] h k = tt
 later-marks x table (y ∷ later) h k =
-    let one = not_same y.actor x.actor (λ e. not_below_itself y.actor (subst (λ a. IsActorBelow a y.actor) (sym e) h.0)) in
+    let one = not_same y.actor x.actor (λ e. IsActorBelow-apart y.actor (subst (λ a. IsActorBelow a y.actor) (sym e) h.0)) in
     (rw one k.0, later-marks x table later h.1 k.1)
 
 -- in a rising table each entry tells of its actor

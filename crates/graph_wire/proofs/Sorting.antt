@@ -14,9 +14,9 @@ use Rattle.std.proofs.lemmas.List.Sorted.{Contains-permutation, IsPermutation-sy
 use Rattle.std.proofs.lemmas.Option.{slice_get-get_or}
 use Rattle.crgc_ids.specs.Actor.{Actor, IsActorBelow, is_actor_below, same_actor}
 use Rattle.crgc_ids.specs.Members.{IsAmong}
-use Rattle.crgc_ids.proofs.ActorLaws.{actor_cases, is_actor_below-decides, same_actor-decides}
+use Rattle.crgc_ids.proofs.ActorLaws.{IsActorBelow-apart, actor_cases, is_actor_below-decides, same_actor-decides}
 use Rattle.wire_grammar.specs.Named.{index_of, table_of}
-use Rattle.wire_grammar.proofs.Tables.{IsTable, index_of-slice_get, not_below_itself, table-same, table_of-has, table_of-only, table_of-rises}
+use Rattle.wire_grammar.proofs.Tables.{IsTable, index_of-slice_get, table-same, table_of-has, table_of-only, table_of-rises}
 
 -- the order of actors, as a comparison
 abbrev pub actor_cmp : Actor → Actor → Ordering
@@ -65,10 +65,10 @@ not_same a b h =
 ties : (a b : Actor) → same_actor a b ≡ eq_by_cmp actor_cmp a b
 ties a b =
     elim (actor_cases a b) [
-      | inl h ↦ not_same a b (λ e. not_below_itself a (subst (IsActorBelow a) (sym e) h)) ∙ sym (ap is_eq (cmp_below a b h))
+      | inl h ↦ not_same a b (λ e. IsActorBelow-apart a (subst (IsActorBelow a) (sym e) h)) ∙ sym (ap is_eq (cmp_below a b h))
       | inr other ↦ elim other [
         | inl h ↦ (same_actor-decides a b).1 h ∙ sym (ap is_eq (cmp_same a b h))
-        | inr h ↦ not_same a b (λ e. not_below_itself a (subst (λ c. IsActorBelow c a) (sym e) h)) ∙ sym (ap is_eq (cmp_above a b h))
+        | inr h ↦ not_same a b (λ e. IsActorBelow-apart a (subst (λ c. IsActorBelow c a) (sym e) h)) ∙ sym (ap is_eq (cmp_above a b h))
       ]
     ]
 

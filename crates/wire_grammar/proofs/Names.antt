@@ -1,7 +1,6 @@
 -- The names of rows against a table: which tables have all of them, and how long such a table is.
 use Rattle.std.proofs.Common.{◌≡◌, ◌<◌, ◌≤◌, ◌+◌, ◌*◌, ◌^◌, ℕ, suc, Bool, true, false, cond, ltb, List, [], ◌∷◌, ◌++◌, length, Option, Some, None, Ok, refl, sym, ap, subst, ◌∙◌, inl, inr, arith}
 use Rattle.std.specs.List.{AllByRecursion, flat_map, list_any}
-use Rattle.std.proofs.lemmas.Bool.Decides.{same_from_decides}
 use Rattle.std.proofs.lemmas.Bool.{ltb-false}
 use Rattle.std.proofs.lemmas.List.Concat.{flat_map-cons}
 use Rattle.crgc_ids.specs.Actor.{Actor, IsActorBelow, same_actor}
@@ -172,12 +171,3 @@ unnamed-again names offset (a ∷ table) p =
 pub all_named-again : {X : Type 0} (names : List Actor) (offset : ℕ) (table : List Actor) (x : X) → IsPart table names → all_named (unnamed names offset table) x ≡ Ok x
 all_named-again {X = X} names offset table x p =
     let one = unnamed-again names offset table p in rw one refl
-
--- what is unnamed depends on the members alone
-pub unnamed-same : (xs ys : List Actor) (offset : ℕ) (table : List Actor) → IsPart xs ys → IsPart ys xs → unnamed xs offset table ≡ unnamed ys offset table
-unfolding unnamed
-unnamed-same xs ys offset [] p q = refl
-unnamed-same xs ys offset (a ∷ table) p q =
-    let one : list_any (same_actor a) xs ≡ list_any (same_actor a) ys = same_from_decides (list_any (same_actor a) xs) (list_any (same_actor a) ys) (among-decides xs a)
-    ((λ e. q a ((among-decides ys a).0 e)), (λ m. (among-decides ys a).1 (p a m))) in
-    rw one (ap (λ r. cond (list_any (same_actor a) ys) r (Some offset)) (unnamed-same xs ys (offset + 5) table p q))
