@@ -78,15 +78,28 @@ fn stands_at(table: &[ActorId], place: usize, actor: ActorId) -> bool
     }
 }
 
-/// The index of an actor in a rising table. It is looked for at a place, and at the one after it, since a section's rows
-/// rise and so does the table; then it is found by its order.
+/// A place as far from the given one as two serials are apart: where the table has each serial between, the actor stands
+/// there. It is a guess, so nothing is promised of it.
+fn guess(table: &[ActorId], place: usize, actor: ActorId) -> usize {
+    match table.get(place) {
+        Some(other) => {
+            let ahead = place.saturating_add(actor.serial() as usize);
+            ahead.saturating_sub(other.serial() as usize)
+        }
+        None => place,
+    }
+}
+
+/// The index of an actor in a rising table. It is looked for where the serials let it be expected from a place, and right
+/// after that place, since a section's rows rise and so does the table; then it is found by its order.
 fn index_near(table: &[ActorId], place: usize, actor: ActorId) -> usize
     requires { IsRising IsActorBelow table.now }
     ensures value { result ≡ index_of table.now actor }
     ensures bound { result ≤ length table.now }
 {
-    if stands_at(table, place, actor) {
-        return place;
+    let expected = guess(table, place, actor);
+    if stands_at(table, expected, actor) {
+        return expected;
     }
     let next = place.saturating_add(1);
     if stands_at(table, next, actor) {
@@ -259,7 +272,7 @@ fn put_window(out: &mut Vec<u8>, wide: bool, table: &[ActorId], w: &Window) -> R
 }
 
 /// The one spelling of the bulletin, in the wide form where it names more than 65,535 actors. Time in proportion to
-/// n log n for n names at most, and to n where rows that follow one another name actors that do so in the table.
+/// n log n for n names at most, and to n where each section's names rise and leave out few of the table's actors.
 #[tactic(auto, unfolding(wire_grammar::specs::Spelling::spelled))]
 pub fn write(alloc: Global, b: &Bulletin) -> Result<Octets, NoMemory>
     requires { IsWritable b.now }

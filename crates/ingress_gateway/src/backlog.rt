@@ -1,9 +1,9 @@
 //! What was admitted since the last window.
-ghost use Rattle.std.specs.Prelude.{◌≡◌, ◌==◌, ◌+◌, ◌<◌, ◌≤◌, ◌^◌, ◌++◌, [], ◌∷◌, OnOk, count_by, length, map, true};
+ghost use Rattle.std.specs.Prelude.{◌≡◌, ◌==◌, ◌+◌, ◌<◌, ◌≤◌, ◌^◌, ◌++◌, [], ◌∷◌, OnOk, count_by, length, map};
 ghost use Rattle.crgc_ids.specs.Actor.{Actor, same_actor};
 ghost use Rattle.crgc_ids.specs.Members.{IsAmong};
 ghost use Rattle.row_sums.specs.Totals.{actor_total, pair_total};
-ghost use Rattle.ingress_gateway.specs.Pending.{carried_count, message_count, named_count, names_in};
+ghost use Rattle.ingress_gateway.specs.Pending.{carried_count, message_count, named_count};
 
 use crate::names::Names;
 use crgc_ids::{ActorCount, ActorCounts, ActorId, NoMemory, PairCount, PairCounts};

@@ -4,11 +4,11 @@ use Rattle.wire_grammar.proofs.Tables.{index_of-slice_get}
 use Rattle.graph_wire.proofs.writing.index_near.Goals as goal
 
 pub returns-then-stands_at-clause-value : goal.returns-then-stands_at-clause-value
-returns-then-stands_at-clause-value c = sym (index_of-slice_get c.args.table.now c.args.place c.args.actor c.requires (c.stands_at.ensures.0 c.if-stands_at.true))
+returns-then-stands_at-clause-value c = sym (index_of-slice_get c.args.table.now c.guess-expected.result c.args.actor c.requires (c.stands_at.ensures.0 c.if-stands_at.true))
 
 pub returns-then-stands_at-clause-bound : goal.returns-then-stands_at-clause-bound
 returns-then-stands_at-clause-bound c =
-    let within = slice_get_within c.args.table.now c.args.place c.args.actor (c.stands_at.ensures.0 c.if-stands_at.true) in
+    let within = slice_get_within c.args.table.now c.guess-expected.result c.args.actor (c.stands_at.ensures.0 c.if-stands_at.true) in
     omega arith
 
 pub returns-then-stands_at-2-clause-value : goal.returns-then-stands_at-2-clause-value
