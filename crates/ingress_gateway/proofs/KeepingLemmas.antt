@@ -1,11 +1,12 @@
 -- Rows and names that keep one message or one carried reference more.
-use Rattle.std.proofs.Common.{◌≡◌, ◌+◌, ◌<◌, ◌^◌, ◌&&◌, ◌||◌, ℕ, Bool, true, false, cond, List, [], ◌∷◌, ◌++◌, length, map, refl, sym, ◌∙◌, ap, subst, inl, inr, arith}
+use Rattle.std.proofs.Common.{◌≡◌, ◌+◌, ◌<◌, ◌^◌, ◌==◌, ◌&&◌, ◌||◌, ℕ, Bool, true, false, cond, List, [], ◌∷◌, ◌++◌, length, map, refl, sym, ◌∙◌, ap, subst, inl, inr, arith}
 use Rattle.std.proofs.ByRecursion.{All-push}
 use Rattle.std.proofs.lemmas.Bool.{and_parts}
-use Rattle.std.proofs.lemmas.Bool.Decides.{same_from_decides}
+use Rattle.std.proofs.lemmas.Bool.Decides.{Decides-eqb, same_from_decides}
 use Rattle.std.proofs.lemmas.Grind.{flat_map-append}
 use Rattle.std.proofs.lemmas.List.{map-append}
 use Rattle.std.proofs.lemmas.List.Sums.{sum_by-cons, sum_by_push}
+use Rattle.std.specs.Bool.{IsTrue}
 use Rattle.std.specs.List.{AllByRecursion, count_by, flat_map, list_any, sum_by}
 use Rattle.crgc_ids.specs.Actor.{Actor, same_actor}
 use Rattle.crgc_ids.specs.Members.{IsAmong, IsPart}
@@ -16,9 +17,9 @@ use Rattle.crgc_ids.proofs.MembersLaws.{IsAmong-append_cases, IsAmong-append_lef
 use Rattle.history_model.specs.Graph.{rising_actors}
 use Rattle.history_model.proofs.RisingActors.{among-decides, length-rising_more}
 use Rattle.row_sums.specs.Totals.{actor_total, pair_total}
-use Rattle.ingress_gateway.specs.Keeping.{IsKept, pairs, recipients}
+use Rattle.ingress_gateway.specs.Keeping.{IsKept}
 use Rattle.ingress_gateway.specs.NameSet.{HasSameNames, NameSet, has_name}
-use Rattle.ingress_gateway.specs.Pending.{carried_count, message_count}
+use Rattle.ingress_gateway.specs.Pending.{carried_count, message_count, pairs, recipients}
 
 -- rows that each count once count a key as often as it comes
 pub total-ones : {X K : Type 0} (key : X → K) (count : X → ℕ) (p : K → Bool) (rows : List X) → AllByRecursion (λ r. count r ≡ 1) rows → sum_by (λ r. cond (p (key r)) (count r) 0) rows ≡ count_by p (map key rows)
@@ -34,6 +35,10 @@ total-ones key count p (r ∷ rows) ones =
 pub ones-stand : {X : Type 0} (count : X → ℕ) (rows : List X) → AllByRecursion (λ r. count r ≡ 1) rows → AllByRecursion (λ r. 0 < count r) rows
 ones-stand count [] ones = tt
 ones-stand count (r ∷ rows) ones = (let one = ones.0 in omega arith, ones-stand count rows ones.1)
+
+all-implied : {X : Type 0} (P Q : X → Type 0) → ((x : X) → P x → Q x) → (xs : List X) → AllByRecursion P xs → AllByRecursion Q xs
+all-implied P Q implies [] all = tt
+all-implied P Q implies (x ∷ xs) all = (implies x all.0, all-implied P Q implies xs all.1)
 
 -- a key that comes once more still fits, and so does each other one
 fits-push : {K : Type 0} (p : K → Bool) (keys : List K) (k : K) (limit : ℕ) → count_by p keys < limit → (p k ≡ true → count_by p keys + 1 < limit) → count_by p (keys ++ k ∷ []) < limit
@@ -94,6 +99,7 @@ kept-message messages carried old new to kept fits one =
     record {
       one_message = All-push (λ r. r.count ≡ 1) messages row kept.one_message refl;
       one_reference = kept.one_reference;
+      owners = subst (λ keys. AllByRecursion (λ r. IsAmong r.owner keys) carried) (sym moved) (all-implied (λ r. IsAmong r.owner all) (λ r. IsAmong r.owner (all ++ to ∷ [])) (λ r h. IsAmong-append_left r.owner all (to ∷ []) h) carried kept.owners);
       messages_fit = λ a. subst (λ keys. message_count a keys < 2 ^ 32) (sym moved) (fits-push (same_actor a) all to (2 ^ 32) (kept.messages_fit a) (λ t. subst (λ b. message_count b all + 1 < 2 ^ 32) (sym ((same_actor-decides a to).0 t)) fits));
       carried_fit = kept.carried_fit;
       named = λ a. more.0 a ∙ ap (λ keys. list_any (same_actor a) (keys ++ rest)) (sym moved);
@@ -136,6 +142,7 @@ kept-carried messages carried old new owner target kept fits named one =
     record {
       one_message = kept.one_message;
       one_reference = All-push (λ r. r.count ≡ 1) carried row kept.one_reference refl;
+      owners = All-push (λ r. IsAmong r.owner (recipients messages)) carried row kept.owners named;
       messages_fit = kept.messages_fit;
       carried_fit = λ b a. subst (λ keys. carried_count b a keys < 2 ^ 32) (sym moved) (fits-push (λ p. same_actor b p.0 && same_actor a p.1) all (owner, target) (2 ^ 32) (kept.carried_fit b a) (λ t. (
           let both = and_parts (same_actor b owner) (same_actor a target) t in
@@ -153,6 +160,7 @@ pub kept-same : (messages : List ActorCount) (carried : List PairCount) (old new
 kept-same messages carried old new kept same = record {
   one_message = kept.one_message;
   one_reference = kept.one_reference;
+  owners = kept.owners;
   messages_fit = kept.messages_fit;
   carried_fit = kept.carried_fit;
   named = λ a. same.names a ∙ kept.named a;
@@ -165,3 +173,14 @@ messages-total messages carried names a kept = total-ones (λ (r : ActorCount). 
 
 pub carried-total : (messages : List ActorCount) (carried : List PairCount) (names : NameSet) (b a : Actor) → IsKept messages carried names → pair_total b a carried ≡ carried_count b a (pairs carried)
 carried-total messages carried names b a kept = total-ones (λ (r : PairCount). (r.owner, r.target)) (λ (r : PairCount). r.count) (λ p. same_actor b p.0 && same_actor a p.1) carried kept.one_reference
+
+-- where no message was admitted, nothing is carried
+pub no_carried : (messages rows : List ActorCount) (carried : List PairCount) (names : NameSet) (none : Bool) → IsKept messages carried names → rows ≡ messages → none ≡ (length rows == 0) → IsTrue none → pairs carried ≡ []
+no_carried messages rows carried names none kept is told t =
+    let empty : length rows ≡ 0 = (Decides-eqb (length rows) 0).0 (sym told ∙ t) in
+    without messages carried kept.owners (sym (ap length is) ∙ empty)
+  where
+    without : (messages : List ActorCount) (carried : List PairCount) → AllByRecursion (λ r. IsAmong r.owner (recipients messages)) carried → length messages ≡ 0 → pairs carried ≡ []
+    without messages [] owners e = refl
+    without [] (r ∷ carried) owners e = absurd owners.0
+    without (m ∷ messages) (r ∷ carried) owners e = absurd (omega arith)

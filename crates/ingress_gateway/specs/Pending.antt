@@ -1,7 +1,9 @@
 -- What a link admitted since its last window.
-use Rattle.std.specs.Prelude.{◌&&◌, ◌++◌, ℕ, List, [], ◌∷◌, count_by, length}
+use Rattle.std.specs.Prelude.{◌&&◌, ◌++◌, ℕ, List, [], ◌∷◌, count_by, length, map}
 use Rattle.std.specs.List.{flat_map}
 use Rattle.crgc_ids.specs.Actor.{Actor, same_actor}
+use Rattle.crgc_ids.specs.declared.rising.ActorCount.{ActorCount}
+use Rattle.crgc_ids.specs.declared.rising.PairCount.{PairCount}
 use Rattle.history_model.specs.Graph.{rising_actors}
 
 -- the recipients of the messages, and the pairs of a recipient and a reference carried to it, each in the order of
@@ -26,3 +28,11 @@ names_in messages carried = messages ++ flat_map (λ p. p.0 ∷ p.1 ∷ []) carr
 -- how many different actors they name
 abbrev pub named_count : List Actor → List (Actor × Actor) → ℕ
 named_count messages carried = length (rising_actors (names_in messages carried))
+
+-- the recipients that rows count
+abbrev pub recipients : List ActorCount → List Actor
+recipients rows = map (λ r. r.actor) rows
+
+-- the pairs that rows count
+abbrev pub pairs : List PairCount → List (Actor × Actor)
+pairs rows = map (λ r. (r.owner, r.target)) rows

@@ -1,9 +1,10 @@
 //! What was admitted since the last window.
-ghost use Rattle.std.specs.Prelude.{◌≡◌, ◌==◌, ◌+◌, ◌<◌, ◌≤◌, ◌^◌, ◌++◌, [], ◌∷◌, OnOk, count_by, length, map};
+ghost use Rattle.std.specs.Prelude.{◌≡◌, ◌==◌, ◌+◌, ◌<◌, ◌≤◌, ◌^◌, ◌++◌, [], ◌∷◌, IsTrue, OnOk, count_by, length, map};
 ghost use Rattle.crgc_ids.specs.Actor.{Actor, same_actor};
 ghost use Rattle.crgc_ids.specs.Members.{IsAmong};
+ghost use Rattle.history_model.specs.Graph.{rising_actors};
 ghost use Rattle.row_sums.specs.Totals.{actor_total, pair_total};
-ghost use Rattle.ingress_gateway.specs.Pending.{carried_count, message_count, named_count};
+ghost use Rattle.ingress_gateway.specs.Pending.{carried_count, message_count, named_count, names_in, pairs, recipients};
 
 use crate::names::Names;
 use crgc_ids::{ActorCount, ActorCounts, ActorId, NoMemory, PairCount, PairCounts};
@@ -22,8 +23,8 @@ pub struct Backlog {
 
 impl Model for Backlog {
     ghost use Rattle.std.specs.Prelude.{◌-◌, min, vec_capacity, vec_len};
-    ghost use Rattle.ingress_gateway.specs.Keeping.{IsKept, pairs, recipients};
-    ghost use Rattle.ingress_gateway.specs.Pending.{Pending};
+    ghost use Rattle.ingress_gateway.specs.Keeping.{IsKept};
+    ghost use Rattle.ingress_gateway.specs.Pending.{Pending, pairs, recipients};
 
     ghost Value = { Pending };
 
@@ -104,11 +105,12 @@ impl Backlog {
         });
     }
 
-    /// Whether no message was admitted.
+    /// Whether no message was admitted; then nothing is carried.
     pub fn is_empty(&self) -> bool
-        ensures { result ≡ (length self.now.messages == 0) }
+        ensures value { result ≡ (length self.now.messages == 0) }
+        ensures none { IsTrue result → self.now.carried ≡ [] }
     {
-        self.messages.is_empty()
+        self.messages.as_slice().is_empty()
     }
 
     /// How many different actors are named. Constant time.
@@ -122,6 +124,7 @@ impl Backlog {
     pub fn into_sums(self) -> (ActorCounts, PairCounts)
         ensures messages { (a : Actor) → actor_total a result.0 ≡ message_count a self.messages }
         ensures carried { (b a : Actor) → pair_total b a result.1 ≡ carried_count b a self.carried }
+        ensures named { length (rising_actors (names_in (recipients result.0) (pairs result.1))) ≡ named_count self.messages self.carried }
     {
         (sum_of_counts(self.messages), sum_of_pairs(self.carried))
     }

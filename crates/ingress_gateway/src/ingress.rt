@@ -61,13 +61,15 @@ impl Ingress {
     }
 
     /// A copy of the message with this number comes to the actor. Each number is admitted once, and counts then in the
-    /// window that comes next. `Admitted` alone changes anything; after `NoMemory` all is as before. Logarithmic time in
-    /// the numbers beyond those that came in order, and amortized constant time for each reference on average.
+    /// window that comes next. `Admitted` alone changes anything; `NoMemory` comes only where it would be admitted, and all
+    /// is then as before. Amortized logarithmic time in the numbers beyond those that came in order, and amortized constant
+    /// time for each reference on average.
     pub fn admit(&mut self, number: u32, to: ActorId, refs: &[ActorId]) -> Result<Admit, NoMemory>
         requires messages { message_count to self.old.messages + 1 < 2 ^ 32 }
         requires carried { (a : Actor) → carried_count to a self.old.carried + count_by (same_actor a) refs.now < 2 ^ 32 }
         ensures ok { IfOk result (λ answer. Answered self.old self.new number to refs.now answer) }
         ensures err { OnErr result (self.new ≡ self.old) }
+        ensures fresh { OnErr result ((self.old.is_closed ≡ false) × (is_admitted self.old number ≡ false)) }
     {
         if self.is_closed {
             return Ok(Admit::Closed);
@@ -99,7 +101,7 @@ impl Ingress {
         ensures some { IfSome result (λ w. IsWindowOf self.old w) }
         ensures admitted { OnSome result (0 < length self.old.messages) }
         ensures after { OnSome result (self.new ≡ emptied self.old) }
-        ensures none { IfNone result (self.old.messages ≡ []) }
+        ensures none { IfNone result ((self.old.messages ≡ []) × (self.old.carried ≡ [])) }
         ensures unchanged { IfNone result (self.new ≡ self.old) }
     {
         if self.backlog.is_empty() {

@@ -39,12 +39,13 @@ impl RefCounts {
         }
     }
 
-    /// `count` references to the target are held more, and no other count changes. After `NoMemory` all is as before.
-    /// Logarithmic time in the number of targets.
+    /// `count` references to the target are held more, and no other count changes. `NoMemory` comes only where none is held,
+    /// and all is then as before. Logarithmic time in the number of targets.
     pub fn add(&mut self, target: ActorId, count: u32) -> Result<(), NoMemory>
         requires { count_of self.old target + count < 2 ^ 32 }
         ensures ok { OnOk result (ChangesOnly self.old self.new target (count_of self.old target + count)) }
         ensures err { OnErr result (self.new ≡ self.old) }
+        ensures absent { OnErr result (count_of self.old target ≡ 0) }
     {
         let held = self.held(target);
         match self.counts.insert(target, held + count) {

@@ -12,7 +12,8 @@ use crgc_ids::{ActorCount, ActorCounts};
 pub fn sum_of_counts(rows: Vec<ActorCount>) -> ActorCounts
     requires stand { AllByRecursion (λ r. 0 < r.count) rows.items }
     requires fits { (a : Actor) → actor_total a rows.items < 2 ^ 32 }
-    ensures { (a : Actor) → actor_total a result ≡ actor_total a rows.items }
+    ensures totals { (a : Actor) → actor_total a result ≡ actor_total a rows.items }
+    ensures stand { AllByRecursion (λ r. 0 < r.count) result }
 {
     let mut rows = rows;
     add_up_counts(&mut rows);

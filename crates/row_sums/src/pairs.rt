@@ -12,7 +12,8 @@ use crgc_ids::{PairCount, PairCounts};
 pub fn sum_of_pairs(rows: Vec<PairCount>) -> PairCounts
     requires stand { AllByRecursion (λ r. 0 < r.count) rows.items }
     requires fits { (b a : Actor) → pair_total b a rows.items < 2 ^ 32 }
-    ensures { (b a : Actor) → pair_total b a result ≡ pair_total b a rows.items }
+    ensures totals { (b a : Actor) → pair_total b a result ≡ pair_total b a rows.items }
+    ensures stand { AllByRecursion (λ r. 0 < r.count) result }
 {
     let mut rows = rows;
     add_up_pairs(&mut rows);
