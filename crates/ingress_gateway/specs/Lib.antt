@@ -4,3 +4,4 @@ pub mod Keeping
 pub mod NameSet
 pub mod Numbered
 pub mod Pending
+pub mod Runs

@@ -62,8 +62,8 @@ impl Ingress {
 
     /// A copy of the message with this number comes to the actor. Each number is admitted once, and counts then in the
     /// window that comes next. `Admitted` alone changes anything; `NoMemory` comes only where it would be admitted, and all
-    /// is then as before. Amortized logarithmic time in the numbers beyond those that came in order, and amortized constant
-    /// time for each reference on average.
+    /// is then as before. Logarithmic time in the runs of admitted numbers, and amortized constant time for each reference
+    /// on average.
     pub fn admit(&mut self, number: u32, to: ActorId, refs: &[ActorId]) -> Result<Admit, NoMemory>
         requires messages { message_count to self.old.messages + 1 < 2 ^ 32 }
         requires carried { (a : Actor) → carried_count to a self.old.carried + count_by (same_actor a) refs.now < 2 ^ 32 }

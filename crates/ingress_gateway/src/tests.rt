@@ -58,6 +58,19 @@ fn a_number_that_was_admitted_is_discarded(rt: HostRuntime) -> Result<(), Fail> 
 }
 
 #[test]
+fn numbers_come_in_any_order(rt: HostRuntime) -> Result<(), Fail> {
+    let to = actor(0)?;
+    let mut ingress = opened(rt.alloc())?;
+    assert_eq!(rt; ingress.admit(8, to, [to].as_slice())?, Admit::Admitted);
+    assert_eq!(rt; ingress.cut_window().ok_or("a window")?.messages.len(), 1);
+    assert_eq!(rt; ingress.admit(6, to, [to].as_slice())?, Admit::Admitted);
+    assert_eq!(rt; ingress.cut_window().ok_or("a window")?.messages.len(), 1);
+    assert_eq!(rt; ingress.admit(7, to, [to].as_slice())?, Admit::Admitted);
+    assert_eq!(rt; ingress.admit(8, to, [to].as_slice())?, Admit::Discarded);
+    Ok(())
+}
+
+#[test]
 fn nothing_is_admitted_once_closed(rt: HostRuntime) -> Result<(), Fail> {
     let to = actor(0)?;
     let mut ingress = opened(rt.alloc())?;

@@ -1,23 +1,31 @@
-use Rattle.std.proofs.Common.{◌≡◌, ◌==◌, ◌||◌, ◌+◌, ◌≤◌, ltb, true, sym, ◌∙◌, ap, arith}
-use Rattle.std.specs.List.{list_any}
-use Rattle.ingress_gateway.proofs.NumbersLemmas.{any-changed, begin-more, beyond_grows, from_no_error}
+use Rattle.std.proofs.Common.{◌≡◌, false, sym, ◌∙◌, subst}
+use Rattle.std.specs.BTreeMap.{get}
+use Rattle.std.specs.Ordering.{nat_cmp}
+use Rattle.ingress_gateway.specs.Numbered.{Numbered, has_number}
+use Rattle.ingress_gateway.proofs.NumbersLemmas.{IsPut, from_no_error, joined-apart, put-joined, put-numbers}
 use Rattle.ingress_gateway.proofs.numbers.Numbers.insert.Goals as goal
+
+is-put : (c : goal.After-remove) → IsPut c.self.inside.runs c.insert.new.self c.remove.new.self c.from-number.result c.first_with-first.result c.end_with-end.result
+is-put c =
+    let updates = from_no_error _ c.insert.result (sym c.is_err.ensures.value ∙ c.if-is_err.false) c.insert.ensures.updates in
+    let requires = subst (λ (n : Numbered). has_number n c.args.number ≡ false) (sym c.self.view_is) c.requires in
+    record {
+      apart = c.self.invariant;
+      old_ordered = c.first_with-first.ensures.ordered;
+      new_ordered = c.remove.ensures.ordered;
+      out = subst (λ k. has_number (record { runs = c.self.inside.runs.entries }) k ≡ false) (sym c.from-number.ensures) requires;
+      left = c.first_with-first.ensures.first;
+      right = c.end_with-end.ensures;
+      first_put = updates.0;
+      next_taken = c.remove.ensures.updates.0;
+    }
 
 pub invariant_of-self-2 : goal.invariant_of-self-2
 invariant_of-self-2 c =
-    let run = c.self.inside.run in
-    let old = c.self.inside.beyond.keys in
-    let new = c.insert.new.self.keys in
-    let updates = from_no_error _ c.insert.result (sym c.is_err.ensures.value ∙ c.if-is_err.false) c.insert.ensures.updates in
-    let differ : c.args.number ≡ run → ⊥ = λ e. c.if-from-self.false (c.from.ensures ∙ e) in
-    let above : run + 1 ≤ c.args.number = omega arith in
-    begin-more (run + 1) c.args.number old new c.self.invariant above c.ranges.number.fits (any-changed c.args.number true old new updates.0)
+    joined-apart (get nat_cmp c.self.inside.runs) (get nat_cmp c.remove.new.self) c.from-number.result c.first_with-first.result c.end_with-end.result
+    (put-joined c.self.inside.runs c.insert.new.self c.remove.new.self c.from-number.result c.first_with-first.result c.end_with-end.result (is-put c))
 
 pub returns-clause-ok : goal.returns-clause-ok
 returns-clause-ok c = λ k.
-    let run = c.self.inside.run in
-    let old = c.self.inside.beyond.keys in
-    let new = c.insert.new.self.keys in
-    let updates = from_no_error _ c.insert.result (sym c.is_err.ensures.value ∙ c.if-is_err.false) c.insert.ensures.updates in
-    let change = any-changed c.args.number true old new updates.0 k in
-    rw (← c.self.view_is) (ap (λ b. ltb k run || b) change ∙ beyond_grows (ltb k run) (k == c.args.number) (list_any (λ x. k == x) old))
+    let told = put-numbers c.self.inside.runs c.insert.new.self c.remove.new.self c.from-number.result c.first_with-first.result c.end_with-end.result (is-put c) k in
+    rw (← c.self.view_is, ← c.from-number.ensures) told
