@@ -91,7 +91,7 @@ inside-last runs k first end apart last = (
 
 -- where all runs begin later it stands in none
 pub outside-later : (m : BTreeMap ℕ ℕ) → IsOrdered nat_cmp m → (k : ℕ) → BeginLater (get nat_cmp m) k → has_number (record { runs = m.entries }) k ≡ false
-outside-later m ordered k later = same_from_decides (has_number (record { runs = m.entries }) k) false (inside-decides m ordered k) (
+outside-later m ordered k later = same_from_decides _ false (inside-decides m ordered k) (
   λ t. absurd (false≢true t),
   λ i. let low = i.low in let late = later i.first i.end i.run in absurd (omega arith),
 )
@@ -288,7 +288,7 @@ module _ (old put new : BTreeMap ℕ ℕ) (number first end : ℕ) (is : IsPut o
 
   pub put-numbers : (k : ℕ) → has_number (record { runs = new.entries }) k ≡ ((k == number) || has_number (record { runs = old.entries }) k)
   put-numbers k =
-      let inside = joined-inside (get nat_cmp old) (get nat_cmp new) number first end put-joined k in
+      let inside = joined-inside _ _ _ _ _ put-joined k in
       let told = inside-decides new is.new_ordered k in
-      same_from_decides (has_number (record { runs = new.entries }) k) ((k == number) || has_number (record { runs = old.entries }) k) (λ t. inside.0 (told.0 t), λ h. told.1 (inside.1 h))
-      (Decides-or (k == number) (has_number (record { runs = old.entries }) k) (Decides-eqb k number) (inside-decides old is.old_ordered k))
+      same_from_decides _ ((k == number) || has_number (record { runs = old.entries }) k) (λ t. inside.0 (told.0 t), λ h. told.1 (inside.1 h))
+      (Decides-or _ _ (Decides-eqb k number) (inside-decides old is.old_ordered k))
