@@ -17,6 +17,7 @@ use Rattle.crgc_ids.proofs.MembersLaws.{IsAmong-append_cases, IsAmong-append_lef
 use Rattle.history_model.specs.Graph.{rising_actors}
 use Rattle.history_model.proofs.RisingActors.{among-decides, length-rising_more}
 use Rattle.row_sums.specs.Totals.{actor_total, pair_total}
+use Rattle.row_sums.proofs.SumLemmas.{all-implied}
 use Rattle.ingress_gateway.specs.Keeping.{IsKept}
 use Rattle.ingress_gateway.specs.NameSet.{HasSameNames, NameSet, has_name}
 use Rattle.ingress_gateway.specs.Pending.{carried_count, message_count, pairs, recipients}
@@ -35,10 +36,6 @@ total-ones key count p (r ∷ rows) ones =
 pub ones-stand : {X : Type 0} (count : X → ℕ) (rows : List X) → AllByRecursion (λ r. count r ≡ 1) rows → AllByRecursion (λ r. 0 < count r) rows
 ones-stand count [] ones = tt
 ones-stand count (r ∷ rows) ones = (let one = ones.0 in omega arith, ones-stand count rows ones.1)
-
-all-implied : {X : Type 0} (P Q : X → Type 0) → ((x : X) → P x → Q x) → (xs : List X) → AllByRecursion P xs → AllByRecursion Q xs
-all-implied P Q implies [] all = tt
-all-implied P Q implies (x ∷ xs) all = (implies x all.0, all-implied P Q implies xs all.1)
 
 -- a key that comes once more still fits, and so does each other one
 fits-push : {K : Type 0} (p : K → Bool) (keys : List K) (k : K) (limit : ℕ) → count_by p keys < limit → (p k ≡ true → count_by p keys + 1 < limit) → count_by p (keys ++ k ∷ []) < limit

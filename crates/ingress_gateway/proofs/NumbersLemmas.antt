@@ -1,17 +1,16 @@
 -- Runs of numbers in a map, and the numbers in them.
-use Rattle.std.proofs.Common.{◌≡◌, ◌⊎◌, ◌↔◌, ◌==◌, ◌+◌, ◌<◌, ◌≤◌, ◌&&◌, ◌||◌, ℕ, zero, suc, Bool, true, false, cond, List, [], ◌∷◌, length, get_or, leb, ltb, Option, Some, None, Result, Ok, Err, OnOk, refl, sym, ◌∙◌, ap, subst, inl, inr, arith}
-use Rattle.std.proofs.lemmas.Bool.{and_parts, cases_lt, false≢true, ne_eqb}
-use Rattle.std.proofs.lemmas.Bool.Decides.{Decides-eqb, Decides-ltb, Decides-or, nat_tests, same_from_decides}
+use Rattle.std.proofs.Common.{◌≡◌, ◌⊎◌, ◌↔◌, ◌==◌, ◌+◌, ◌<◌, ◌≤◌, ◌&&◌, ◌||◌, ℕ, Bool, true, false, cond, get_or, leb, ltb, Option, Some, None, Result, Ok, Err, OnOk, refl, sym, ◌∙◌, ap, subst, inl, inr, arith}
+use Rattle.std.proofs.lemmas.Bool.{cases_lt, false≢true, ne_eqb}
+use Rattle.std.proofs.lemmas.Bool.Decides.{Decides-and, Decides-by_or, Decides-eqb, Decides-like, Decides-ltb, Decides-or, nat_tests, same_from_decides}
 use Rattle.std.proofs.lemmas.Cmp.{nat_cmp_total}
+use Rattle.std.proofs.lemmas.List.{get_or_default}
 use Rattle.std.proofs.lemmas.Map.Lookups.{exact_unsigned}
 use Rattle.std.proofs.lemmas.Map.Views.{btree_map_get_iff}
 use Rattle.std.specs.BTreeMap.{BTreeMap, IsOrdered, get, is_at}
 use Rattle.std.specs.Bool.{Decides}
-use Rattle.std.specs.List.{Contains}
+use Rattle.std.specs.List.{Contains, list_any}
 use Rattle.std.specs.Ordering.{is_gt, is_lt, nat_cmp}
 use Rattle.std.specs.Result.{is_err}
-use Rattle.crgc_ids.specs.Members.{IsAmong}
-use Rattle.crgc_ids.proofs.MembersLaws.{list_any-member, list_any-true}
 use Rattle.ingress_gateway.specs.Numbered.{has_number}
 use Rattle.ingress_gateway.specs.Runs.{AreApart, BeginLater, HasRun, IsEndWith, IsFirstWith, IsLastRun}
 
@@ -44,38 +43,27 @@ pub record Inside (runs : ℕ → Option ℕ) (k : ℕ) : Type 0 where
   pub low : first ≤ k
   pub high : k < end
 
-contains-from_among : {X : Type 0} (xs : List X) (x : X) → IsAmong x xs → Contains xs x
-contains-from_among [] x h = absurd h
-contains-from_among (y ∷ ys) x (inl e) = (0, omega arith, sym e)
-contains-from_among (y ∷ ys) x (inr h) = let c = contains-from_among ys x h in (suc c.0, omega (arith, c.1), c.2)
-
-among-from_contains : {X : Type 0} (xs : List X) (x : X) (k : ℕ) → k < length xs → get_or xs k x ≡ x → IsAmong x xs
-among-from_contains [] x k h e = absurd (omega arith)
-among-from_contains (y ∷ ys) x zero h e = inl (sym e)
-among-from_contains (y ∷ ys) x (suc k) h e = inr (among-from_contains ys x k (omega arith) e)
-
 -- so the map's entries tell
 pub inside-decides : (m : BTreeMap ℕ ℕ) → IsOrdered nat_cmp m → (k : ℕ) → Decides (has_number (record { runs = m.entries }) k) (Inside (get nat_cmp m) k)
-inside-decides m ordered k = (
-  λ t.
-      let found = list_any-true (λ (r : ℕ × ℕ). leb r.0 k && ltb k r.1) m.entries t in
-      let parts = and_parts (leb found.0.0 k) (ltb k found.0.1) found.2 in
-      record {
-        first = found.0.0;
-        end = found.0.1;
-        run = (btree_map_get_iff nat_cmp_total exact_unsigned m ordered found.0.0 found.0.1).1 (contains-from_among m.entries found.0 found.1);
-        low = (leb-decides found.0.0 k).0 parts.0;
-        high = (Decides-ltb k found.0.1).0 parts.1;
-      },
-  λ i.
-      let c = (btree_map_get_iff nat_cmp_total exact_unsigned m ordered i.first i.end).0 i.run in
-      list_any-member (λ (r : ℕ × ℕ). leb r.0 k && ltb k r.1) (i.first, i.end) m.entries (among-from_contains m.entries (i.first, i.end) c.0 c.1 c.2)
-      (and_both (leb i.first k) (ltb k i.end) ((leb-decides i.first k).1 i.low) ((Decides-ltb k i.end).1 i.high)),
-)
+inside-decides m ordered k = Decides-like (has_number (record { runs = m.entries }) k)
+    (λ found.
+    let r = get_or m.entries found.0 (0, 0) in
+    let here = found.2 (0, 0) in
+    record {
+      first = r.0;
+      end = r.1;
+      run = (run-entry r.0 r.1).1 (found.0, found.1, get_or_default m.entries found.0 r (0, 0) found.1);
+      low = here.0;
+      high = here.1;
+    })
+    (λ i. let c = (run-entry i.first i.end).0 i.run in (c.0, c.1, λ d. subst In (sym c.2 ∙ get_or_default m.entries c.0 (i.first, i.end) d c.1) (i.low, i.high)))
+    (Decides-by_or (λ (r : ℕ × ℕ). leb r.0 k && ltb k r.1) In (list_any (λ (r : ℕ × ℕ). leb r.0 k && ltb k r.1)) (λ r. Decides-and _ _ (leb-decides r.0 k) (Decides-ltb k r.1)) refl (λ _ _. refl) m.entries)
   where
-    and_both : (a b : Bool) → a ≡ true → b ≡ true → (a && b) ≡ true
-    and_both true b s t = t
-    and_both false b s t = absurd (false≢true s)
+    In : ℕ × ℕ → Type 0
+    In r = (r.0 ≤ k) × (k < r.1)
+
+    run-entry : (first end : ℕ) → (get nat_cmp m first ≡ Some end) ↔ Contains m.entries (first, end)
+    run-entry = btree_map_get_iff nat_cmp_total exact_unsigned m ordered
 
 -- the last run that begins at or before a number tells whether it stands in a run
 pub inside-last : (runs : ℕ → Option ℕ) (k first end : ℕ) → AreApart runs → IsLastRun runs k first end → Decides (ltb k end) (Inside runs k)

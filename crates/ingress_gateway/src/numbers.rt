@@ -11,7 +11,7 @@ use std::collections::BTreeMap;
 use std::marker::Model;
 
 /// A set of numbers, which come nearly in order. It keeps the runs of it: the first number of each, with the one after its
-/// last. So it takes memory for each gap, and not for each number.
+/// last, which may be one too large for 32 bits. So it takes memory for each gap, and not for each number.
 #[derive(Debug, Drop)]
 pub struct Numbers {
     runs: BTreeMap<u64, u64>,

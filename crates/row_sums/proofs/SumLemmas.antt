@@ -48,7 +48,8 @@ pub record IsSum {K X : Type 0} (below : K → K → Type 0) (same : K → K →
   pub stand : AllByRecursion (λ y. 0 < count y) ys
   pub totals : (t : K) → total same key count t ys ≡ total same key count t xs
 
-all-implied : {X : Type 0} (P Q : X → Type 0) → ((x : X) → P x → Q x) → (xs : List X) → AllByRecursion P xs → AllByRecursion Q xs
+-- what follows from what is so of each row is so of each
+pub all-implied : {X : Type 0} (P Q : X → Type 0) → ((x : X) → P x → Q x) → (xs : List X) → AllByRecursion P xs → AllByRecursion Q xs
 all-implied P Q implies [] all = tt
 all-implied P Q implies (x ∷ xs) all = (implies x all.0, all-implied P Q implies xs all.1)
 

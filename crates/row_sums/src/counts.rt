@@ -39,6 +39,7 @@ fn take_in_count(last: &mut ActorCount, next: &ActorCount) -> bool
 {
     let same = last.actor == next.actor;
     if same {
+        // where the totals fit, nothing is cut off
         last.count = last.count.saturating_add(next.count);
     }
     same

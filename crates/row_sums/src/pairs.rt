@@ -39,6 +39,7 @@ fn take_in_pair(last: &mut PairCount, next: &PairCount) -> bool
 {
     let same = last.owner == next.owner && last.target == next.target;
     if same {
+        // where the totals fit, nothing is cut off
         last.count = last.count.saturating_add(next.count);
     }
     same

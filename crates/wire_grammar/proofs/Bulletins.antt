@@ -2,7 +2,7 @@
 use Rattle.std.proofs.Common.{◌≡◌, ◌≢◌, ◌⊎◌, ◌<◌, ◌≤◌, ◌+◌, ◌^◌, ◌==◌, ◌&&◌, ◌||◌, ℕ, zero, suc, Bool, true, false, eqb, ltb, not, List, [], ◌∷◌, ◌++◌, length, drop, Result, Ok, Err, refl, sym, ap, subst, ◌∙◌, inl, inr, arith}
 use Rattle.std.specs.List.{AllByRecursion}
 use Rattle.std.proofs.lemmas.List.{append-nil, drop_at, length-append, nil_from_length}
-use Rattle.std.proofs.lemmas.Bool.{eqb-false, eqb-true, lt-ltb, ltb-true, ne_eqb}
+use Rattle.std.proofs.lemmas.Bool.{and_from, eqb-false, eqb-true, lt-ltb, ltb-true, ne_eqb}
 use Rattle.byteorder.specs.Endian.{big_bytes}
 use Rattle.crgc_bytes.specs.Place.{IsBytes, Place}
 use Rattle.crgc_ids.specs.Actor.{Actor, IsActorBelow, IsPairBelow}
@@ -259,9 +259,6 @@ and-both : (a b : Bool) → (a && b) ≡ true → (a ≡ true) × (b ≡ true)
 and-both true b h = (refl, h)
 and-both false b h = absurd cc
 
-ap2-and : (a b : Bool) → a ≡ true → b ≡ true → (a && b) ≡ true
-ap2-and a b h k = rw (h, k) refl
-
 link-reader : IsReader (λ (z : ℕ × ℕ). big_bytes 1 z.0 ++ big_bytes 1 z.1) link_at (λ z. (z.0 < 16) × (z.1 < 16) × (z.1 ≢ z.0))
 link-reader =
     reader-like
@@ -406,7 +403,7 @@ kind-reader : IsReader (big_bytes 1) kind_at (λ n. (0 < n) × (n < 4))
 kind-reader =
     reader-like
     (λ n h. let b = and-both (ltb 0 n) (ltb n 4) h.1 in (ltb-true 0 n b.0, ltb-true n 4 b.1))
-    (λ n h. (omega (arith, h.1), ap2-and (ltb 0 n) (ltb n 4) (lt-ltb 0 n h.0) (lt-ltb n 4 h.1)))
+    (λ n h. (omega (arith, h.1), and_from (ltb 0 n) (ltb n 4) (lt-ltb 0 n h.0) (lt-ltb n 4 h.1)))
     (checked-reader Kind (λ n. ltb 0 n && ltb n 4) (number-reader 1))
 
 bulletin-takes : (p q : Place) (b : Bulletin) → IsBytes p.rest → bulletin_at p ≡ Ok (b, q) → IsSpellable b × Moves p (spelled b) q
