@@ -11,9 +11,9 @@ use Rattle.history_model.specs.Cluster.{Cluster}
 use Rattle.history_model.specs.Folds.{cut_at, lost_of, folded}
 use Rattle.history_model.specs.Story.{Story}
 use Rattle.history_model.specs.Sweeps.{stopped_by, stops_of}
-use Rattle.history_model.specs.Lines.{spell, header_words, cut_words, stop_words, text_of}
-use Rattle.history_model.specs.Report.{verdict_lines, told_lines, stopped_total}
-use Rattle.cluster_top.specs.Journal.{event_line, IsNext, IsPlayable}
+use Rattle.journal_model.specs.Lines.{spell, cut_words, stop_words, text_of, event_line, header_line, line_of}
+use Rattle.journal_model.specs.Report.{verdict_lines, told_lines, stopped_total}
+use Rattle.cluster_top.specs.Journal.{IsNext, IsPlayable}
 use Rattle.cluster_top.specs.Followed.{IsFollowed, sweep_of}
 
 -- each line has at least its line feed
@@ -68,17 +68,17 @@ text-told : (header : List ℕ) (told more : List (List ℕ)) → text_of (heade
 text-told header told more = flat_map-append (λ l. l ++ 10 ∷ []) (header ∷ told) more
 
 -- the next event, where it is no sweep
-pub followed-other : (s s' : Story) (text text' : List ℕ) (n : ℕ) (e : Event) → IsFollowed s text n → IsNext s.cluster s.past e → s'.cluster ≡ s.cluster → s'.past ≡ e ∷ s.past → sweep_of e ≡ None → text' ≡ text ++ (event_line e ++ 10 ∷ []) → IsFollowed s' text' n
+pub followed-other : (s s' : Story) (text text' : List ℕ) (n : ℕ) (e : Event) → IsFollowed s text n → IsNext s.cluster s.past e → s'.cluster ≡ s.cluster → s'.past ≡ e ∷ s.past → sweep_of e ≡ None → text' ≡ text ++ line_of (event_line e) → IsFollowed s' text' n
 followed-other s s' text text' n e before next cluster past none is =
     let t : Story = record { cluster = s.cluster; past = e ∷ s.past } in
-    let header = spell (header_words s.cluster) in
+    let header = header_line s.cluster in
     let before_it = told_lines s.cluster s.past in
     let told : text' ≡ text_of (header ∷ told_lines s.cluster (e ∷ s.past)) =
-    is ∙ ap (λ (x : List ℕ). x ++ (event_line e ++ 10 ∷ [])) before.report
-    ∙ ap (λ (x : List ℕ). text_of (header ∷ before_it) ++ x) (sym (append-nil (event_line e ++ 10 ∷ [])))
+    is ∙ ap (λ (x : List ℕ). x ++ line_of (event_line e)) before.report
+    ∙ ap (λ (x : List ℕ). text_of (header ∷ before_it) ++ x) (sym (append-nil line_of (event_line e)))
     ∙ sym (text-told header before_it (event_line e ∷ []))
     ∙ sym (ap (λ (ls : List (List ℕ)). text_of (header ∷ ls)) (told-other s.cluster s.past e none)) in
-    let fits : n ≤ length text' = omega (arith, before.room, ap length is, length-append text (event_line e ++ 10 ∷ [])) in
+    let fits : n ≤ length text' = omega (arith, before.room, ap length is, length-append text line_of (event_line e)) in
     let kept : IsFollowed t text' n = record {
       playable = playable-next s.cluster s.past e before.playable next;
       report = told;
@@ -88,23 +88,23 @@ followed-other s s' text text' n e before next cluster past none is =
     subst (λ (x : Story). IsFollowed x text' n) (story-is t s' (sym cluster) (sym past)) kept
 
 -- the next event, where it is a sweep whose verdict is told
-pub followed-sweep : (s s' : Story) (text line_told text' : List ℕ) (n stops n' m : ℕ) (e : Event) → IsFollowed s text n → IsNext s.cluster s.past e → s'.cluster ≡ s.cluster → s'.past ≡ e ∷ s.past → sweep_of e ≡ Some m → line_told ≡ text ++ (event_line e ++ 10 ∷ []) → text' ≡ line_told ++ text_of (verdict_lines s.cluster m s.past) → stops ≡ length (stopped_by s.cluster m s.past) → n' ≡ n + stops → IsFollowed s' text' n'
+pub followed-sweep : (s s' : Story) (text line_told text' : List ℕ) (n stops n' m : ℕ) (e : Event) → IsFollowed s text n → IsNext s.cluster s.past e → s'.cluster ≡ s.cluster → s'.past ≡ e ∷ s.past → sweep_of e ≡ Some m → line_told ≡ text ++ line_of (event_line e) → text' ≡ line_told ++ text_of (verdict_lines s.cluster m s.past) → stops ≡ length (stopped_by s.cluster m s.past) → n' ≡ n + stops → IsFollowed s' text' n'
 followed-sweep s s' text line_told text' n stops n' m e before next cluster past sweeps line is count total =
     let t : Story = record { cluster = s.cluster; past = e ∷ s.past } in
-    let header = spell (header_words s.cluster) in
+    let header = header_line s.cluster in
     let before_it = told_lines s.cluster s.past in
     let verdict = verdict_lines s.cluster m s.past in
     let equal : e ≡ Sweep m = sweep-is e m sweeps in
     let told : text' ≡ text_of (header ∷ told_lines s.cluster (e ∷ s.past)) =
-    is ∙ ap (λ (x : List ℕ). x ++ text_of verdict) (line ∙ ap (λ (x : List ℕ). x ++ (event_line e ++ 10 ∷ [])) before.report)
-    ∙ append_assoc (text_of (header ∷ before_it)) (event_line e ++ 10 ∷ []) (text_of verdict)
+    is ∙ ap (λ (x : List ℕ). x ++ text_of verdict) (line ∙ ap (λ (x : List ℕ). x ++ line_of (event_line e)) before.report)
+    ∙ append_assoc (text_of (header ∷ before_it)) line_of (event_line e) (text_of verdict)
     ∙ sym (text-told header before_it (event_line e ∷ verdict))
     ∙ ap (λ (x : Event). text_of (header ∷ (before_it ++ event_line x ∷ verdict))) equal
     ∙ sym (ap (λ (x : Event). text_of (header ∷ told_lines s.cluster (x ∷ s.past))) equal) in
     let stopped : n' ≡ stopped_total s.cluster (e ∷ s.past) =
     total ∙ ap (λ (x : ℕ). x + stops) before.stopped ∙ ap (λ (x : ℕ). stopped_total s.cluster s.past + x) count
     ∙ sym (ap (λ (x : Event). stopped_total s.cluster (x ∷ s.past)) equal) in
-    let grown : length text ≤ length line_told = omega (arith, ap length line, length-append text (event_line e ++ 10 ∷ [])) in
+    let grown : length text ≤ length line_told = omega (arith, ap length line, length-append text line_of (event_line e)) in
     let more : length line_told + length (stops_of s.cluster m s.past) ≤ length text' =
     stops_fit m (map (cut_at s.cluster m s.past) (nodes_below s.cluster.nodes)) (lost_of s.cluster (folded s.cluster m s.past)) (stops_of s.cluster m s.past) line_told text' is in
     let all : length (stops_of s.cluster m s.past) ≡ stops = length-map (stopped_by s.cluster m s.past) _ ∙ sym count in

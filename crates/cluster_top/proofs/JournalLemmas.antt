@@ -11,9 +11,9 @@ use Rattle.crgc_ids.specs.declared.Which.{Which}
 use Rattle.event_lines.proofs.EventsLaws.{spell-injective}
 use Rattle.history_model.specs.Cluster.{Cluster}
 use Rattle.history_model.specs.Legal.{refusal}
-use Rattle.history_model.specs.Limits.{limit_passed}
-use Rattle.history_model.specs.Lines.{IsSpellable, lines_of}
-use Rattle.cluster_top.specs.Journal.{event_line, header_line, IsJournal, IsNext, IsNoJournal, IsPlayable, MayFollow, after}
+use Rattle.journal_model.specs.Limits.{limit_passed}
+use Rattle.journal_model.specs.Lines.{IsSpellable, lines_of, event_line, header_line}
+use Rattle.cluster_top.specs.Journal.{IsJournal, IsNext, IsNoJournal, IsPlayable, MayFollow, after}
 
 -- an answer that says something is not the one that says nothing
 some-not_none : {A : Type 0} (o : Option A) → is_some o ≡ true → o ≡ None → ⊥

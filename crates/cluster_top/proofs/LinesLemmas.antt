@@ -6,7 +6,7 @@ use Rattle.std.proofs.lemmas.List.Splits.{slice_split_none, slice_split_first}
 use Rattle.std.proofs.lemmas.List.Quantifiers.{position-Some}
 use Rattle.std.proofs.lemmas.List.Sums.{fails_before_first, position_or_len_is}
 use Rattle.std.proofs.lemmas.Bool.Decides.{nat_tests}
-use Rattle.history_model.specs.Lines.{lines_of, without_empty_end}
+use Rattle.journal_model.specs.Lines.{lines_of, without_empty_end}
 
 abbrev is_line_feed : ℕ → Bool
 is_line_feed b = b == 10

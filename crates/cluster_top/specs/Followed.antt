@@ -3,14 +3,14 @@ use Rattle.std.specs.Prelude.{ℕ, ◌≡◌, ◌≤◌, ◌∷◌, List, length
 use Rattle.history_model.specs.declared.events.Event.{Event}
 use Rattle.history_model.specs.declared.events.Event.TheVariants.{Sweep}
 use Rattle.history_model.specs.Story.{Story}
-use Rattle.history_model.specs.Lines.{spell, header_words, text_of}
-use Rattle.history_model.specs.Report.{told_lines, stopped_total}
+use Rattle.journal_model.specs.Lines.{header_line, text_of}
+use Rattle.journal_model.specs.Report.{told_lines, stopped_total}
 use Rattle.cluster_top.specs.Journal.{IsPlayable}
 
 -- the history is one of a journal, and its report and its stops are told so far
 pub record IsFollowed (s : Story) (text : List ℕ) (stops : ℕ) : Type 0 where
   pub playable : IsPlayable s.cluster s.past
-  pub report : text ≡ text_of (spell (header_words s.cluster) ∷ told_lines s.cluster s.past)
+  pub report : text ≡ text_of (header_line s.cluster ∷ told_lines s.cluster s.past)
   pub stopped : stops ≡ stopped_total s.cluster s.past
   pub room : stops ≤ length text
 

@@ -3,17 +3,10 @@ use Rattle.std.specs.Prelude.{ℕ, ◌≡◌, ◌≤◌, ◌∷◌, [], List, No
 use Rattle.history_model.specs.declared.events.Event.{Event}
 use Rattle.history_model.specs.Cluster.{Cluster}
 use Rattle.history_model.specs.Legal.{refusal, IsLegal}
-use Rattle.history_model.specs.Limits.{limit_passed}
-use Rattle.history_model.specs.Lines.{spell, header_words, event_words, IsSpellable, AreSpellable, lines_of}
+use Rattle.journal_model.specs.Limits.{limit_passed}
+use Rattle.journal_model.specs.Lines.{header_line, event_line, IsSpellable, AreSpellable, lines_of}
 use Rattle.plain_world.specs.Built.{is_built, AreBuilt}
 use Rattle.std.specs.Prelude.{true}
-
-abbrev pub header_line : Cluster → List ℕ
-header_line cl = spell (header_words cl)
-
--- the line of an event
-abbrev pub event_line : Event → List ℕ
-event_line e = spell (event_words e)
 
 -- no event passed a limit
 abbrev pub IsWithinLimits : Cluster → List Event → Type 0

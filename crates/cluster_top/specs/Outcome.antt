@@ -5,7 +5,8 @@ use Rattle.crgc_io.specs.Fault.{CountRose}
 use Rattle.crgc_io.specs.Taken.{Takes}
 use Rattle.history_model.specs.declared.events.Event.{Event}
 use Rattle.history_model.specs.Cluster.{Cluster}
-use Rattle.history_model.specs.Report.{report_of}
+use Rattle.journal_model.specs.Lines.{line_of}
+use Rattle.journal_model.specs.Report.{report_of}
 use Rattle.cluster_top.specs.declared.status.Status.{Status}
 use Rattle.cluster_top.specs.declared.status.Status.TheVariants.{Done, Usage, ReadFault, WriteFault, Journal, NoMemory}
 use Rattle.cluster_top.specs.declared.status.Cause.TheVariants.{Unbuilt}
@@ -17,10 +18,6 @@ use Rattle.cluster_top.specs.Journal.{IsJournal, IsNoJournal}
 -- the words are a command: the one word `play`
 abbrev pub IsCommand : List (List ℕ) → Type 0
 IsCommand words = words ≡ codes "play" ∷ []
-
--- one line of text
-abbrev pub line_of : List ℕ → List ℕ
-line_of bytes = bytes ++ 10 ∷ []
 
 -- what the source gave in the call
 abbrev pub HasTaken : {S : Type 0} → (left given : S → Option (List ℕ)) (old new : S) → (List ℕ → Type 0) → Type 0

@@ -1,11 +1,11 @@
 //! Following a journal line by line: the history so far, and its report so far.
 ghost use Rattle.std.specs.Prelude.{◌≡◌, ◌+◌, ◌≤◌, ◌∷◌, ◌++◌, [], length, Err, IfOk, OnOk};
 ghost use Rattle.history_model.specs.declared.events.Event.{Event as AnyEvent};
-ghost use Rattle.history_model.specs.Lines.{text_of};
-ghost use Rattle.history_model.specs.Report.{report_of, verdict_lines};
+ghost use Rattle.journal_model.specs.Lines.{text_of, event_line};
+ghost use Rattle.journal_model.specs.Report.{report_of, verdict_lines};
 ghost use Rattle.history_model.specs.Sweeps.{stopped_by};
 ghost use Rattle.cluster_top.specs.Followed.{sweep_of};
-ghost use Rattle.cluster_top.specs.Journal.{event_line, IsNext, IsPlayable};
+ghost use Rattle.cluster_top.specs.Journal.{IsNext, IsPlayable};
 
 use crate::play_fault::PlayFault;
 use crgc_ids::{NoMemory, NodeId};

@@ -1,6 +1,6 @@
 //! The lines of a text, one after another.
 ghost use Rattle.std.specs.Prelude.{◌≡◌, ◌==◌, ◌<◌, [], ◌∷◌, length, position, IfSome, IfNone};
-ghost use Rattle.history_model.specs.Lines.{lines_of};
+ghost use Rattle.journal_model.specs.Lines.{lines_of};
 
 /// The first line, and the text after its line feed; None exactly where the text has no line. Linear in the line.
 pub fn next_line(text: &[u8]) -> Option<(&[u8], &[u8])>

@@ -2,10 +2,10 @@
 ghost use Rattle.std.specs.Prelude.{◌≡◌, ◌≤◌, ◌<◌, ◌∷◌, [], length, List, map, Err, IfOk, IfSome, IfNone};
 ghost use Rattle.history_model.specs.declared.events.Event.{Event as AnyEvent};
 ghost use Rattle.history_model.specs.Cluster.{Cluster};
-ghost use Rattle.history_model.specs.Lines.{lines_of};
-ghost use Rattle.history_model.specs.Report.{report_of};
+ghost use Rattle.journal_model.specs.Lines.{lines_of, event_line, header_line};
+ghost use Rattle.journal_model.specs.Report.{report_of};
 ghost use Rattle.cluster_top.specs.Collected.{IsRightlyCollected};
-ghost use Rattle.cluster_top.specs.Journal.{after, event_line, header_line, IsJournal, IsNoJournal, MayFollow};
+ghost use Rattle.cluster_top.specs.Journal.{after, IsJournal, IsNoJournal, MayFollow};
 
 use crate::followed::Followed;
 use crate::lines::next_line;

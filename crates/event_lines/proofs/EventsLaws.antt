@@ -11,7 +11,7 @@ use Rattle.std.specs.Str.{bytes_eq}
 use Rattle.crgc_ids.specs.Actor.{Actor}
 use Rattle.history_model.specs.declared.events.Event.{Event}
 use Rattle.history_model.specs.declared.events.Event.TheVariants.{Seed, Tie, Wake, Take, Spawn, Send, Drop, Retire, Rest, Flush, Publish, Window, Admit, Lose, Repeat, Crash, Remove, Hand, Sweep}
-use Rattle.history_model.specs.Lines.{actor_word, AreActorNames, event_words, IsActorName, IsSpellable, spell}
+use Rattle.journal_model.specs.Lines.{actor_word, AreActorNames, event_words, IsActorName, IsSpellable, spell, event_line}
 use Rattle.event_lines.specs.Events.{actor_event, event_of, line_event, link_event, node_event, pair_event}
 use Rattle.event_lines.specs.Pieces.{pieces}
 use Rattle.event_lines.specs.Shapes.{link_number, message, one_actor, one_node, two_actors, two_nodes}
@@ -175,13 +175,13 @@ pieces-words [] e r free = absurd (none-some e r)
 pieces-words (w ∷ ws) e r free = pieces-join 32 w ws free
 
 -- an event is read from its line
-pub line_event-spell : (e : Event) → IsSpellable e → line_event (pieces 32 (spell (event_words e))) ≡ Some e
+pub line_event-spell : (e : Event) → IsSpellable e → line_event (pieces 32 (event_line e)) ≡ Some e
 line_event-spell e h =
     let r = line_event-words e h in
     ap line_event (pieces-words (event_words e) e r (event_words-free e h)) ∙ r
 
 -- and what is read from a line spells it
-pub line_event-some : (line : List ℕ) (e : Event) → line_event (pieces 32 line) ≡ Some e → IsSpellable e × (spell (event_words e) ≡ line)
+pub line_event-some : (line : List ℕ) (e : Event) → line_event (pieces 32 line) ≡ Some e → IsSpellable e × (event_line e ≡ line)
 line_event-some line e r =
     let words = pieces 32 line in
     option_and_then_some _ _ e r (λ w first made.
@@ -192,11 +192,11 @@ line_event-some line e r =
       cons-words (v ∷ ws) w e' = ap (λ x. x ∷ ws) (sym (same_Some v w e'))
 
 -- no two events are spelled alike
-pub spell-injective : (e f : Event) → IsSpellable e → IsSpellable f → spell (event_words e) ≡ spell (event_words f) → e ≡ f
+pub spell-injective : (e f : Event) → IsSpellable e → IsSpellable f → event_line e ≡ event_line f → e ≡ f
 spell-injective e f g h same = same_Some e f (sym (line_event-spell e g) ∙ ap (λ l. line_event (pieces 32 l)) same ∙ line_event-spell f h)
 
 -- what reading answers
-pub line_event-match : (line : List ℕ) (o : Option Event) → o ≡ line_event (pieces 32 line) → MatchOption o ((e : Event) → IsSpellable e → spell (event_words e) ≡ line → ⊥) (λ e. IsSpellable e × (spell (event_words e) ≡ line))
+pub line_event-match : (line : List ℕ) (o : Option Event) → o ≡ line_event (pieces 32 line) → MatchOption o ((e : Event) → IsSpellable e → event_line e ≡ line → ⊥) (λ e. IsSpellable e × (event_line e ≡ line))
 line_event-match line (Some e) r = line_event-some line e (sym r)
 line_event-match line None r = λ e h same. none-some e (r ∙ ap (λ l. line_event (pieces 32 l)) (sym same) ∙ line_event-spell e h)
 
@@ -209,6 +209,6 @@ pub line_event-none : (line : List ℕ) (ws : List (List ℕ)) → ws ≡ pieces
 line_event-none line ws all none = ap (option_and_then (λ v. event_of v (drop 1 ws))) none ∙ ap line_event all
 
 -- the same where reading may want memory
-pub line_event-read : {E : Type 0} (line : List ℕ) (r : Result (Option Event) E) (read : Option Event) → read ≡ line_event (pieces 32 line) → IfOk r (λ o. o ≡ read) → IfOk r (λ o. MatchOption o ((e : Event) → IsSpellable e → spell (event_words e) ≡ line → ⊥) (λ e. IsSpellable e × (spell (event_words e) ≡ line)))
+pub line_event-read : {E : Type 0} (line : List ℕ) (r : Result (Option Event) E) (read : Option Event) → read ≡ line_event (pieces 32 line) → IfOk r (λ o. o ≡ read) → IfOk r (λ o. MatchOption o ((e : Event) → IsSpellable e → event_line e ≡ line → ⊥) (λ e. IsSpellable e × (event_line e ≡ line)))
 line_event-read line (Ok o) read same h = line_event-match line o (h ∙ same)
 line_event-read line (Err e) read same h = tt

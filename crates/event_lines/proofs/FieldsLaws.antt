@@ -15,7 +15,7 @@ use Rattle.std.specs.Option.{IfNone, IfSome, option_map}
 use Rattle.std.specs.Str.{bytes_eq}
 use Rattle.std.specs.Str.Parse.{AllDigits, digits_value}
 use Rattle.crgc_ids.specs.Actor.{Actor}
-use Rattle.history_model.specs.Lines.{actor_word, IsActorName}
+use Rattle.journal_model.specs.Lines.{actor_word, IsActorName}
 use Rattle.event_lines.specs.Fields.{actor_of, actor_of_parts, first_actor, first_number, number_of}
 use Rattle.event_lines.specs.Pieces.{nothing_left, pieces}
 use Rattle.event_lines.proofs.PiecesLaws.{IsFreeOf, join-pieces, pieces-join}

@@ -7,7 +7,7 @@ use Rattle.std.specs.Fmt.{decimal}
 use Rattle.std.specs.List.{AllByRecursion}
 use Rattle.std.specs.Option.{MatchOption}
 use Rattle.std.specs.Str.{bytes_eq}
-use Rattle.history_model.specs.Lines.{header_words, spell}
+use Rattle.journal_model.specs.Lines.{header_words, spell, header_line}
 use Rattle.event_lines.specs.Fields.{first_name}
 use Rattle.event_lines.specs.Pieces.{pieces}
 use Rattle.event_lines.specs.Shapes.{header_numbers}
@@ -18,7 +18,7 @@ use Rattle.event_lines.proofs.PiecesLaws.{IsFreeOf, join-pieces, pieces-join}
 -- the numbers are in range and their header is the line
 abbrev pub IsHeader : ℕ → ℕ → List ℕ → Type 0
 IsHeader nodes version line =
-    (1 ≤ nodes) × (nodes ≤ 16) × (1 ≤ version) × (version ≤ 2) × (spell (header_words (record { nodes = nodes; version = version })) ≡ line)
+    (1 ≤ nodes) × (nodes ≤ 16) × (1 ≤ version) × (version ≤ 2) × (header_line (record { nodes = nodes; version = version }) ≡ line)
 
 chosen_name : (b : Bool) (u : Unit {0}) → cond b (Some tt) None ≡ Some u → b ≡ true
 chosen_name true u e = refl
@@ -68,6 +68,6 @@ header-line n v line h =
 
 -- what reading answers
 pub header-match : (line : List ℕ) (o : Option (ℕ × ℕ)) → o ≡ header_numbers (pieces 32 line)
-    → MatchOption o ((nodes version : ℕ) → 1 ≤ nodes → nodes ≤ 16 → 1 ≤ version → version ≤ 2 → spell (header_words (record { nodes = nodes; version = version })) ≡ line → ⊥) (λ r. IsHeader r.0 r.1 line)
+    → MatchOption o ((nodes version : ℕ) → 1 ≤ nodes → nodes ≤ 16 → 1 ≤ version → version ≤ 2 → header_line (record { nodes = nodes; version = version }) ≡ line → ⊥) (λ r. IsHeader r.0 r.1 line)
 header-match line (Some r) e = numbers-some line r (sym e)
 header-match line None e = λ n v some few one two same. none-some (n, v) (e ∙ header-line n v line (some, few, one, two, same))

@@ -5,7 +5,7 @@ use Rattle.std.proofs.lemmas.Option.{none-some, same_Some, option_and_then_some}
 use Rattle.std.specs.Fmt.{decimal}
 use Rattle.std.specs.Option.{option_and_then}
 use Rattle.crgc_ids.specs.Actor.{Actor}
-use Rattle.history_model.specs.Lines.{actor_word, AreActorNames, IsActorName}
+use Rattle.journal_model.specs.Lines.{actor_word, AreActorNames, IsActorName}
 use Rattle.event_lines.specs.Fields.{actor_of}
 use Rattle.event_lines.specs.Shapes.{link_number, message, one_actor, one_node, references_after, two_actors, two_nodes}
 use Rattle.event_lines.proofs.FieldsLaws.{actor_of-some, actor_of-word, first_actor-some, first_number-some, nothing_left-some, number_of-decimal, option_map-some}

@@ -1,7 +1,7 @@
 -- The words of a line as they are written.
 use Rattle.std.specs.Prelude.{ℕ, List, [], ◌∷◌, ◌++◌, map, decimal, length, take, flat_map, ◌≡◌}
 use Rattle.crgc_ids.specs.Actor.{Actor}
-use Rattle.history_model.specs.Lines.{actor_word, spell}
+use Rattle.journal_model.specs.Lines.{actor_word, spell}
 use Rattle.event_lines.specs.declared.words.Word.{Word}
 use Rattle.event_lines.specs.declared.words.Word.TheVariants.{Name, Number, ActorName}
 

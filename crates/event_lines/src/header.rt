@@ -1,6 +1,6 @@
 //! Reading the header of a history.
 ghost use Rattle.std.specs.Prelude.{◌≡◌, ◌≤◌, ℕ, MatchOption};
-ghost use Rattle.history_model.specs.Lines.{header_words, spell};
+ghost use Rattle.journal_model.specs.Lines.{header_line};
 
 use crate::pieces::Pieces;
 
@@ -8,8 +8,8 @@ use crate::pieces::Pieces;
 /// None exactly where it spells none.
 pub fn read_header(line: &[u8]) -> Option<(u8, u8)>
     ensures { MatchOption result
-        ((nodes version : ℕ) → 1 ≤ nodes → nodes ≤ 16 → 1 ≤ version → version ≤ 2 → spell (header_words (record { nodes = nodes; version = version })) ≡ line.now → ⊥)
-        (λ r. (1 ≤ r.0) × (r.0 ≤ 16) × (1 ≤ r.1) × (r.1 ≤ 2) × (spell (header_words (record { nodes = r.0; version = r.1 })) ≡ line.now)) }
+        ((nodes version : ℕ) → 1 ≤ nodes → nodes ≤ 16 → 1 ≤ version → version ≤ 2 → header_line (record { nodes = nodes; version = version }) ≡ line.now → ⊥)
+        (λ r. (1 ≤ r.0) × (r.0 ≤ 16) × (1 ≤ r.1) × (r.1 ≤ 2) × (header_line (record { nodes = r.0; version = r.1 }) ≡ line.now)) }
 {
     Pieces::of(line, b' ').header()
 }

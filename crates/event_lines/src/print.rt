@@ -1,6 +1,6 @@
 //! Appending lines, each with its line feed.
 ghost use Rattle.std.specs.Prelude.{◌≡◌, [], ◌∷◌, ◌++◌, decimal, OnOk, OnErr};
-ghost use Rattle.history_model.specs.Lines.{spell, end_words, event_words, header_words};
+ghost use Rattle.journal_model.specs.Lines.{spell, end_words, event_line, header_line, line_of};
 
 use crate::words::{Word, append_line};
 use crgc_ids::{NoMemory, NodeId};
@@ -8,7 +8,7 @@ use history_model::Event;
 
 /// Appends the line of the event. After `NoMemory` the bytes are as before. Linear time in the line.
 pub fn append_event(event: &Event, out: &mut Vec<u8>) -> Result<(), NoMemory>
-    ensures ok { OnOk result (out.new.items ≡ out.old.items ++ (spell (event_words event.now) ++ 10 ∷ [])) }
+    ensures ok { OnOk result (out.new.items ≡ out.old.items ++ line_of (event_line event.now)) }
     ensures err { OnErr result (out.new.items ≡ out.old.items) }
 {
     match event {
@@ -84,7 +84,7 @@ fn append_link(
 
 /// Appends the header of a history of so many nodes, in this version. After `NoMemory` the bytes are as before.
 pub fn append_header(nodes: u8, version: u8, out: &mut Vec<u8>) -> Result<(), NoMemory>
-    ensures ok { OnOk result (out.new.items ≡ out.old.items ++ (spell (header_words (record { nodes = nodes; version = version })) ++ 10 ∷ [])) }
+    ensures ok { OnOk result (out.new.items ≡ out.old.items ++ line_of (header_line (record { nodes = nodes; version = version }))) }
     ensures err { OnErr result (out.new.items ≡ out.old.items) }
 {
     let words = [

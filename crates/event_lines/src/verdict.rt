@@ -1,6 +1,6 @@
 //! Appending the lines of a verdict.
 ghost use Rattle.std.specs.Prelude.{◌≡◌, ◌≤◌, [], ◌∷◌, ◌++◌, decimal, map, take, OnOk, OnErr};
-ghost use Rattle.history_model.specs.Lines.{cut_words, spell, stop_words, text_of};
+ghost use Rattle.journal_model.specs.Lines.{cut_words, spell, stop_words, text_of};
 ghost use Rattle.event_lines.specs.Words.{BeginsWith, spaced};
 
 use crate::words::{Word, append_line, write, write_word};

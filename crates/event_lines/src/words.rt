@@ -1,6 +1,6 @@
 //! Writing lines word by word.
 ghost use Rattle.std.specs.Prelude.{◌≡◌, ◌∷◌, ◌++◌, map, decimal, OnOk, OnErr};
-ghost use Rattle.history_model.specs.Lines.{actor_word};
+ghost use Rattle.journal_model.specs.Lines.{actor_word};
 ghost use Rattle.event_lines.specs.Words.{BeginsWith, bytes_of, line_with, spaced};
 
 use crgc_ids::{ActorId, NoMemory, NodeId};

@@ -17,7 +17,7 @@ use Rattle.history_model.specs.Graph.{delta_facts, received_count, told_count, c
 use Rattle.history_model.specs.Sweeps.{dead_at}
 use Rattle.history_model.specs.Legal.{IsLegal}
 use Rattle.history_model.specs.Quiescent.{IsQuietPoint, IsQuietSet, IsQuiescent}
-use Rattle.history_model.proofs.Sums.{all_sent, noted_sum, told_cut, told_sum}
+use Rattle.history_model.proofs.Sums.{all_sent, noted_sum, told_horizon, told_sum}
 use Rattle.history_model.proofs.AccountsBirths.{born-on_node, noted-born, sent-born}
 use Rattle.history_model.proofs.AccountsNotes.{received-noted, released-noted}
 use Rattle.history_model.proofs.FoldSumsCounts.{created-told, received-told, released-told, sent-told}
@@ -66,7 +66,7 @@ module _ (cl : Cluster) (m : ℕ) (h : List Event) (legal : IsLegal cl h) (here 
 
   -- what actors on nodes that are not lost noted is told
   outside-told : (t : Note → Bool)
-      → told_sum cl (told_cut cl (cut_at cl m h) h) (λ x. not (lost_at cl m h x.by.node) && t x) h ≡ noted_sum cl (λ x. not (lost_at cl m h x.by.node) && t x) h
+      → told_sum cl (told_horizon cl (cut_at cl m h) h) (λ x. not (lost_at cl m h x.by.node) && t x) h ≡ noted_sum cl (λ x. not (lost_at cl m h x.by.node) && t x) h
   outside-told t =
       quiet-told cl m h legal quiet (λ x. not (lost_at cl m h x.by.node) && t x)
       (λ e p x among pass born. not_lost-up x.by.node (born-on_node cl h legal x.by born) (not-true (lost_at cl m h x.by.node) (and_parts (not (lost_at cl m h x.by.node)) (t x) pass).0))
@@ -110,7 +110,7 @@ module _ (cl : Cluster) (m : ℕ) (h : List Event) (legal : IsLegal cl h) (here 
             let none = carried-outside cl h (cut_at cl m h) lost legal b a outside in
             let test : Note → Bool = λ x. not (lost x.by.node) && is_created b a x.fact in
             let counted = created-told cl h (cut_at cl m h) lost b a legal in
-            let noted = told-noted cl (told_cut cl (cut_at cl m h) h) test h in
+            let noted = told-noted cl (told_horizon cl (cut_at cl m h) h) test h in
             let found = noted-born cl h legal test (omega (arith, more, none, counted, noted)) in
             let created_b = (and_parts (not (lost found.0.by.node)) (is_created b a found.0.fact) found.1).1 in
             born-on_node cl h legal b (found.2.1 b (created-names b a found.0.fact created_b).0))

@@ -16,9 +16,9 @@ use Rattle.history_model.specs.Folds.{cut_at}
 use Rattle.history_model.specs.Legal.{IsLegal}
 use Rattle.history_model.specs.Quiescent.{IsQuietPoint}
 use Rattle.history_model.proofs.Basics.{legal-before, same_actor-refl}
-use Rattle.history_model.proofs.Sums.{noted_sum, told_sum, publish_cut, flags_cut, told_cut}
+use Rattle.history_model.proofs.Sums.{noted_sum, told_sum, publish_horizon, horizon_flags, told_horizon}
 use Rattle.history_model.proofs.AccountsBirths.{born-grows, born-on_node, notes-born}
-use Rattle.history_model.proofs.FoldSumsCuts.{flush_cut-last, is_flush_of, last_flush, last_flush-here, last_flush-other}
+use Rattle.history_model.proofs.FoldSumsHorizons.{flush_horizon-last, is_flush_of, last_flush, last_flush-here, last_flush-other}
 use Rattle.history_model.proofs.FoldSumsLogs.{log-flushed, log-next}
 use Rattle.history_model.proofs.FoldSumsNotes.{told-next}
 
@@ -51,7 +51,7 @@ other_event t = absurd (false≢true t)
 
 -- where the queue of a's node is empty, its flushes lie below the last publish
 flushes-published : (cl : Cluster) (a : Actor) (n : ℕ) (h : List Event) → length (stream cl a.node h) ≤ n → queue cl a.node h ≡ []
-    → AreFlushesBelow a (publish_cut cl a.node n h) h
+    → AreFlushesBelow a (publish_horizon cl a.node n h) h
 flushes-published cl a n [] all empty = tt
 flushes-published cl a n (Flush b ∷ p) all empty =
     let Left : Bool → Type 0 = λ v. cond v (queue cl a.node p ++ entry cl b p) (queue cl a.node p) ≡ [] → (v ≡ false) × (queue cl a.node p ≡ []) in
@@ -65,10 +65,10 @@ flushes-published cl a n (Publish m ∷ p) all empty =
     let s = stream cl a.node p in
     let At : Bool → Type 0 = λ v.
     length (cond v (s ++ delta (queue cl a.node p) ∷ []) s) ≤ n → cond v [] (queue cl a.node p) ≡ []
-    → AreFlushesBelow a (cond (v && nat_lt (length s) n) (length p) (publish_cut cl a.node n p)) p in
+    → AreFlushesBelow a (cond (v && nat_lt (length s) n) (length p) (publish_horizon cl a.node n p)) p in
     let at_publish : At true = λ longer _.
     let within : nat_lt (length s) n ≡ true = (Decides-ltb (length s) n).1 (omega (arith, longer, length-append s (delta (queue cl a.node p) ∷ []))) in
-    subst (λ v. AreFlushesBelow a (cond v (length p) (publish_cut cl a.node n p)) p) (sym within) (flushes-within a (length p) p (omega arith)) in
+    subst (λ v. AreFlushesBelow a (cond v (length p) (publish_horizon cl a.node n p)) p) (sym within) (flushes-within a (length p) p (omega arith)) in
     (other_event, (elim (m == a.node) as At [ true ↦ at_publish | false ↦ flushes-published cl a n p ]) all empty)
 flushes-published cl a n (Window d s ∷ p) all empty =
     (other_event, flushes-published cl a n p (shorter (d == a.node) (stream cl a.node p) (window_of s (window s d p)) n all) empty)
@@ -77,13 +77,13 @@ flushes-published cl a n (Remove d s ∷ p) all empty =
 flushes-published cl a n (_ ∷ p) all empty = (other_event, flushes-published cl a n p all empty)
 
 -- the flags at the last flush below the position are those at the last flush
-flags-flushed : (a : Actor) (t : ℕ) (h : List Event) → AreFlushesBelow a t h → flags_cut a t h ≡ flushed_flags a h
+flags-flushed : (a : Actor) (t : ℕ) (h : List Event) → AreFlushesBelow a t h → horizon_flags a t h ≡ flushed_flags a h
 flags-flushed a t [] below = refl
 flags-flushed a t (Flush b ∷ p) below =
     let later = flags-flushed a t p below.1 in
-    let Same : Bool → Type 0 = λ v. same_actor b a ≡ v → cond (v && nat_lt (length p) t) (Some (flags_at a p)) (flags_cut a t p) ≡ cond v (Some (flags_at a p)) (flushed_flags a p) in
+    let Same : Bool → Type 0 = λ v. same_actor b a ≡ v → cond (v && nat_lt (length p) t) (Some (flags_at a p)) (horizon_flags a t p) ≡ cond v (Some (flags_at a p)) (flushed_flags a p) in
     (elim (same_actor b a) as Same [
-      | true ↦ λ s. ap (λ v. cond v (Some (flags_at a p)) (flags_cut a t p)) ((Decides-ltb (length p) t).1 (below.0 s))
+      | true ↦ λ s. ap (λ v. cond v (Some (flags_at a p)) (horizon_flags a t p)) ((Decides-ltb (length p) t).1 (below.0 s))
       | false ↦ λ _. later
     ]) refl
 flags-flushed a t (_ ∷ p) below = flags-flushed a t p below.1
@@ -125,7 +125,7 @@ noted-flushed cl a t (f ∷ q) e p x below blank among by =
 
 -- ---- sums
 
--- all is told, where each note that passes the test lies below its noter's cut
+-- all is told, where each note that passes the test lies below its noter's horizon
 told-within : (cl : Cluster) (u : Actor → ℕ) (t : Note → Bool) (h : List Event)
     → ((q : List Event) (e : Event) (p : List Event) (x : Note) → h ≡ q ++ e ∷ p → IsAmong x (notes cl e p) → t x ≡ true → length p < u x.by)
     → (q p : List Event) → h ≡ q ++ p → told_sum cl u t p ≡ noted_sum cl t p
@@ -155,7 +155,7 @@ as_flushed (Some g) now same =
 pub record IsTold (cl : Cluster) (m : ℕ) (h : List Event) (a : Actor) : Type 0 where
   pub blank : log cl a h ≡ []
   pub flags : are_flags (flushed_flags a h) (flags_at a h) ≡ true
-  pub flushes : AreFlushesBelow a (publish_cut cl a.node (cut_at cl m h a.node) h) h
+  pub flushes : AreFlushesBelow a (publish_horizon cl a.node (cut_at cl m h a.node) h) h
 
 pub quiet-actor : (cl : Cluster) (m : ℕ) (h : List Event) → IsLegal cl h → IsQuietPoint cl m h → (a : Actor) → IsTrue (is_born a h)
     → IsTrue (is_up a.node h) → IsTold cl m h a
@@ -171,23 +171,23 @@ quiet-actor cl m h legal quiet a born up =
 -- at a quiet point all notes of actors on nodes that are up are told
 pub quiet-told : (cl : Cluster) (m : ℕ) (h : List Event) → IsLegal cl h → IsQuietPoint cl m h → (t : Note → Bool)
     → ((e : Event) (p : List Event) (x : Note) → IsAmong x (notes cl e p) → t x ≡ true → IsTrue (is_born x.by h) → IsTrue (is_up x.by.node h))
-    → told_sum cl (told_cut cl (cut_at cl m h) h) t h ≡ noted_sum cl t h
+    → told_sum cl (told_horizon cl (cut_at cl m h) h) t h ≡ noted_sum cl t h
 quiet-told cl m h legal quiet t up =
-    let below : (q : List Event) (e : Event) (p : List Event) (x : Note) → h ≡ q ++ e ∷ p → IsAmong x (notes cl e p) → t x ≡ true → length p < told_cut cl (cut_at cl m h) h x.by =
+    let below : (q : List Event) (e : Event) (p : List Event) (x : Note) → h ≡ q ++ e ∷ p → IsAmong x (notes cl e p) → t x ≡ true → length p < told_horizon cl (cut_at cl m h) h x.by =
     λ q e p x parts among pass.
     let then_legal = legal-before cl q (e ∷ p) (subst (IsLegal cl) parts legal) in
     let born = subst (λ r. IsTrue (is_born x.by r)) (sym parts) (born-grows x.by q (e ∷ p) (notes-born cl e p then_legal x among).0) in
     let told = quiet-actor cl m h legal quiet x.by born (up e p x among pass born) in
-    let cut = publish_cut cl x.by.node (cut_at cl m h x.by.node) h in
-    subst (λ n. length p < n) (sym (flush_cut-last x.by cut h)) (subst (λ r. length p < last_flush 0 length x.by cut r) (sym parts)
-    (noted-flushed cl x.by cut q e p x (subst (AreFlushesBelow x.by cut) parts told.flushes) (subst (λ r. log cl x.by r ≡ []) parts told.blank) among refl)) in
-    told-within cl (told_cut cl (cut_at cl m h) h) t h below [] h refl
+    let horizon = publish_horizon cl x.by.node (cut_at cl m h x.by.node) h in
+    subst (λ n. length p < n) (sym (flush_horizon-last x.by horizon h)) (subst (λ r. length p < last_flush 0 length x.by horizon r) (sym parts)
+    (noted-flushed cl x.by horizon q e p x (subst (AreFlushesBelow x.by horizon) parts told.flushes) (subst (λ r. log cl x.by r ≡ []) parts told.blank) among refl)) in
+    told-within cl (told_horizon cl (cut_at cl m h) h) t h below [] h refl
 
 -- and the flags of such an actor are as at its last flush
 pub flags-told : (cl : Cluster) (m : ℕ) (h : List Event) → IsLegal cl h → IsQuietPoint cl m h → (a : Actor) → IsTrue (is_born a h)
     → IsTrue (is_up a.node h)
-    → (g : Flags) × (flags_cut a (publish_cut cl a.node (cut_at cl m h a.node) h) h ≡ Some g) × (g.busy ≡ is_busy a h) × (g.root ≡ is_root a h)
+    → (g : Flags) × (horizon_flags a (publish_horizon cl a.node (cut_at cl m h a.node) h) h ≡ Some g) × (g.busy ≡ is_busy a h) × (g.root ≡ is_root a h)
 flags-told cl m h legal quiet a born up =
     let told = quiet-actor cl m h legal quiet a born up in
     let flushed = as_flushed (flushed_flags a h) (flags_at a h) told.flags in
-    (flushed.0, flags-flushed a (publish_cut cl a.node (cut_at cl m h a.node) h) h told.flushes ∙ flushed.1, flushed.2, flushed.3)
+    (flushed.0, flags-flushed a (publish_horizon cl a.node (cut_at cl m h a.node) h) h told.flushes ∙ flushed.1, flushed.2, flushed.3)

@@ -12,8 +12,8 @@ use Rattle.history_model.specs.Cluster.{Cluster}
 use Rattle.history_model.specs.Facts.{Fact}
 use Rattle.history_model.specs.Streams.{Notice, delta, window_of, final_of, entry, queue, stream, window}
 use Rattle.history_model.specs.Graph.{delta_facts}
-use Rattle.history_model.proofs.Sums.{publish_cut}
-use Rattle.history_model.proofs.FoldSumsCuts.{is_flush_on, publish_cut-within}
+use Rattle.history_model.proofs.Sums.{publish_horizon}
+use Rattle.history_model.proofs.FoldSumsHorizons.{is_flush_on, publish_horizon-within}
 
 -- `until t h` is what the entries of o's actors flushed before position t tell, as `value` tells it of a list of facts:
 -- `later` flushes add nothing, a flush at the end adds its entry
@@ -64,45 +64,45 @@ stream-grows cl o e p = omega arith
 -- ---- queues and streams
 
 module _ (cl : Cluster) (o : ℕ) {X : Type 0} (join : X → X → X) (value : List Fact → X) (until : ℕ → List Event → X) (laws : IsToldUntil cl o X join value until) (n : ℕ) where
-  abbrev cut : List Event → ℕ
-  cut h = publish_cut cl o n h
+  abbrev horizon : List Event → ℕ
+  horizon h = publish_horizon cl o n h
 
   -- past the last publish, an event that is no flush leaves things as they are
-  queue-stays : (e : Event) (p : List Event) (x : X) → is_flush_on o e ≡ false → until (length p) p ≡ join (until (cut p) p) x → until (suc (length p)) (e ∷ p) ≡ join (until (cut p) (e ∷ p)) x
+  queue-stays : (e : Event) (p : List Event) (x : X) → is_flush_on o e ≡ false → until (length p) p ≡ join (until (horizon p) p) x → until (suc (length p)) (e ∷ p) ≡ join (until (horizon p) (e ∷ p)) x
   queue-stays e p x f before =
-      laws.other e p f ∙ before ∙ ap (λ y. join y x) (sym (laws.later (cut p) e p (publish_cut-within cl o n p)))
+      laws.other e p f ∙ before ∙ ap (λ y. join y x) (sym (laws.later (horizon p) e p (publish_horizon-within cl o n p)))
 
-  queue-flush : (b : Actor) (p : List Event) → until (length p) p ≡ join (until (cut p) p) (value (queue cl o p)) → until (suc (length p)) (Flush b ∷ p) ≡ join (until (cut p) (Flush b ∷ p)) (value (queue cl o (Flush b ∷ p)))
+  queue-flush : (b : Actor) (p : List Event) → until (length p) p ≡ join (until (horizon p) p) (value (queue cl o p)) → until (suc (length p)) (Flush b ∷ p) ≡ join (until (horizon p) (Flush b ∷ p)) (value (queue cl o (Flush b ∷ p)))
   queue-flush b p before =
       let q : List Fact = queue cl o p in
-      let Goal : Bool → Type 0 = λ v. (b.node == o) ≡ v → until (suc (length p)) (Flush b ∷ p) ≡ join (until (cut p) (Flush b ∷ p)) (value (cond v (q ++ entry cl b p) q)) in
+      let Goal : Bool → Type 0 = λ v. (b.node == o) ≡ v → until (suc (length p)) (Flush b ∷ p) ≡ join (until (horizon p) (Flush b ∷ p)) (value (cond v (q ++ entry cl b p) q)) in
       let goal : Goal (b.node == o) = elim (b.node == o) as Goal [
         | true ↦ λ t.
             laws.flush b p t ∙ ap (λ y. join y (value (entry cl b p))) before
-            ∙ laws.assoc (until (cut p) p) (value q) (value (entry cl b p))
-            ∙ ap (λ y. join (until (cut p) p) y) (sym (laws.append q (entry cl b p)))
-            ∙ ap (λ y. join y (value (q ++ entry cl b p))) (sym (laws.later (cut p) (Flush b) p (publish_cut-within cl o n p)))
+            ∙ laws.assoc (until (horizon p) p) (value q) (value (entry cl b p))
+            ∙ ap (λ y. join (until (horizon p) p) y) (sym (laws.append q (entry cl b p)))
+            ∙ ap (λ y. join y (value (q ++ entry cl b p))) (sym (laws.later (horizon p) (Flush b) p (publish_horizon-within cl o n p)))
         | false ↦ λ f. queue-stays (Flush b) p (value q) f before
       ] in
       goal refl
 
-  queue-publish : (m : ℕ) (p : List Event) → length (stream cl o (Publish m ∷ p)) ≤ n → until (length p) p ≡ join (until (cut p) p) (value (queue cl o p)) → until (suc (length p)) (Publish m ∷ p) ≡ join (until (cut (Publish m ∷ p)) (Publish m ∷ p)) (value (queue cl o (Publish m ∷ p)))
+  queue-publish : (m : ℕ) (p : List Event) → length (stream cl o (Publish m ∷ p)) ≤ n → until (length p) p ≡ join (until (horizon p) p) (value (queue cl o p)) → until (suc (length p)) (Publish m ∷ p) ≡ join (until (horizon (Publish m ∷ p)) (Publish m ∷ p)) (value (queue cl o (Publish m ∷ p)))
   queue-publish m p l before =
       let s : List Notice = stream cl o p in
       let q : List Fact = queue cl o p in
       let at_end : until (suc (length p)) (Publish m ∷ p) ≡ until (length p) (Publish m ∷ p) =
       laws.other (Publish m) p refl ∙ sym (laws.later (length p) (Publish m) p (omega arith)) in
-      (elim (m == o) as (λ v. length (cond v (s ++ delta q ∷ []) s) ≤ n → until (suc (length p)) (Publish m ∷ p) ≡ join (until (cond (v && nat_lt (length s) n) (length p) (cut p)) (Publish m ∷ p)) (value (cond v [] q))) [
+      (elim (m == o) as (λ v. length (cond v (s ++ delta q ∷ []) s) ≤ n → until (suc (length p)) (Publish m ∷ p) ≡ join (until (cond (v && nat_lt (length s) n) (length p) (horizon p)) (Publish m ∷ p)) (value (cond v [] q))) [
         | true ↦ λ more. (
             let longer = length-append s (delta q ∷ []) in
             at_end ∙ sym (laws.none (until (length p) (Publish m ∷ p)))
-            ∙ ap (λ w. join (until (cond w (length p) (cut p)) (Publish m ∷ p)) (value [])) (sym (lt-ltb (length s) n (omega arith)))
+            ∙ ap (λ w. join (until (cond w (length p) (horizon p)) (Publish m ∷ p)) (value [])) (sym (lt-ltb (length s) n (omega arith)))
             )
         | false ↦ λ _. queue-stays (Publish m) p (value q) refl before
       ]) l
 
   -- where the whole stream is among the bulletins, what is flushed and not among them stands in the queue
-  queue-value : (h : List Event) → length (stream cl o h) ≤ n → until (length h) h ≡ join (until (cut h) h) (value (queue cl o h))
+  queue-value : (h : List Event) → length (stream cl o h) ≤ n → until (length h) h ≡ join (until (horizon h) h) (value (queue cl o h))
   queue-value [] l = sym (laws.none (until 0 []))
   queue-value (Flush b ∷ p) l = queue-flush b p (queue-value p l)
   queue-value (Publish m ∷ p) l =
@@ -116,14 +116,14 @@ module _ (cl : Cluster) (o : ℕ) {X : Type 0} (join : X → X → X) (value : L
   told xs = value (delta_facts (take n xs))
 
   -- an event that publishes nothing leaves things as they are
-  stream-stays : (e : Event) (p : List Event) → told (stream cl o p) ≡ until (cut p) p → told (stream cl o p) ≡ until (cut p) (e ∷ p)
-  stream-stays e p before = before ∙ sym (laws.later (cut p) e p (publish_cut-within cl o n p))
+  stream-stays : (e : Event) (p : List Event) → told (stream cl o p) ≡ until (horizon p) p → told (stream cl o p) ≡ until (horizon p) (e ∷ p)
+  stream-stays e p before = before ∙ sym (laws.later (horizon p) e p (publish_horizon-within cl o n p))
 
-  stream-link : (b : Bool) (y : Notice) (e : Event) (p : List Event) → delta_facts (y ∷ []) ≡ [] → told (stream cl o p) ≡ until (cut p) p → told (cond b (stream cl o p ++ y ∷ []) (stream cl o p)) ≡ until (cut p) (e ∷ p)
+  stream-link : (b : Bool) (y : Notice) (e : Event) (p : List Event) → delta_facts (y ∷ []) ≡ [] → told (stream cl o p) ≡ until (horizon p) p → told (cond b (stream cl o p ++ y ∷ []) (stream cl o p)) ≡ until (horizon p) (e ∷ p)
   stream-link true y e p none before = ap value (taken_link n (stream cl o p) y none) ∙ stream-stays e p before
   stream-link false y e p none before = stream-stays e p before
 
-  stream-publish : (m : ℕ) (p : List Event) → told (stream cl o p) ≡ until (cut p) p → told (stream cl o p ++ delta (queue cl o p) ∷ []) ≡ until (cond (nat_lt (length (stream cl o p)) n) (length p) (cut p)) (Publish m ∷ p)
+  stream-publish : (m : ℕ) (p : List Event) → told (stream cl o p) ≡ until (horizon p) p → told (stream cl o p ++ delta (queue cl o p) ∷ []) ≡ until (cond (nat_lt (length (stream cl o p)) n) (length p) (horizon p)) (Publish m ∷ p)
   stream-publish m p before =
       let s : List Notice = stream cl o p in
       let q : List Fact = queue cl o p in
@@ -131,7 +131,7 @@ module _ (cl : Cluster) (o : ℕ) {X : Type 0} (join : X → X → X) (value : L
       ap value (taken_more n s (delta q) l) ∙ ap (λ y. value (delta_facts (take n s) ++ y)) (append-nil q)
       ∙ laws.append (delta_facts (take n s)) q ∙ ap (λ y. join y (value q)) before
       ∙ sym (queue-value p (omega arith)) ∙ sym (laws.later (length p) (Publish m) p (omega arith)) in
-      let Goal : Bool → Type 0 = λ w. nat_lt (length s) n ≡ w → told (s ++ delta q ∷ []) ≡ until (cond w (length p) (cut p)) (Publish m ∷ p) in
+      let Goal : Bool → Type 0 = λ w. nat_lt (length s) n ≡ w → told (s ++ delta q ∷ []) ≡ until (cond w (length p) (horizon p)) (Publish m ∷ p) in
       let goal : Goal (nat_lt (length s) n) = elim (nat_lt (length s) n) as Goal [
         | true ↦ λ t. whole (ltb-true (length s) n t)
         | false ↦ λ f. ap value (taken_less n s (delta q) (ltb-false (length s) n f)) ∙ stream-stays (Publish m) p before
@@ -139,12 +139,12 @@ module _ (cl : Cluster) (o : ℕ) {X : Type 0} (join : X → X → X) (value : L
       goal refl
 
   -- what the first n bulletins tell is what was flushed before the last publish among them
-  pub stream-value : (h : List Event) → told (stream cl o h) ≡ until (cut h) h
+  pub stream-value : (h : List Event) → told (stream cl o h) ≡ until (horizon h) h
   stream-value [] = ap (λ l. value (delta_facts l)) (take-nil {A = Notice} n) ∙ sym laws.start
   stream-value (Publish m ∷ p) =
       let s : List Notice = stream cl o p in
       let before = stream-value p in
-      elim (m == o) as (λ v. told (cond v (s ++ delta (queue cl o p) ∷ []) s) ≡ until (cond (v && nat_lt (length s) n) (length p) (cut p)) (Publish m ∷ p)) [
+      elim (m == o) as (λ v. told (cond v (s ++ delta (queue cl o p) ∷ []) s) ≡ until (cond (v && nat_lt (length s) n) (length p) (horizon p)) (Publish m ∷ p)) [
         | true ↦ stream-publish m p before
         | false ↦ stream-stays (Publish m) p before
       ]

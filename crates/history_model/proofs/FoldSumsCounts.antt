@@ -1,4 +1,4 @@
--- The counts of a fold of a legal history are sums of the notes below the cuts. From here on soundness speaks of cuts
+-- The counts of a fold of a legal history are sums of the notes below the horizons. From here on soundness speaks of horizons
 -- alone, and no more of flushes, publishes and streams.
 use Rattle.std.proofs.Common.{◌≡◌, ◌≤◌, ◌+◌, ◌&&◌, ◌||◌, ℕ, zero, suc, Bool, true, false, cond, not, List, [], ◌∷◌, length, refl, sym, ◌∙◌, ap, inl, inr, arith}
 use Rattle.std.proofs.lemmas.Bool.{and_right, cases_lt, false_from_ne_true, le-ltb, ltb-true, cases_Bool, eqb-true}
@@ -18,30 +18,30 @@ use Rattle.history_model.specs.Graph.{received_count, told_count, created_count,
 use Rattle.history_model.specs.Legal.{IsLegal}
 use Rattle.history_model.specs.Streams.{stream}
 use Rattle.history_model.proofs.Basics.{legal-kept}
-use Rattle.history_model.proofs.Sums.{flush_cut, publish_cut, told_cut, told_sum}
+use Rattle.history_model.proofs.Sums.{flush_horizon, publish_horizon, told_horizon, told_sum}
 use Rattle.history_model.proofs.FoldSumsNotes.{told-none, told-same}
-use Rattle.history_model.proofs.FoldSumsCuts.{flush_cut-below}
+use Rattle.history_model.proofs.FoldSumsHorizons.{flush_horizon-below}
 use Rattle.history_model.proofs.FoldSumsStreams.{deltas-told}
 use Rattle.history_model.proofs.Lists.{tally-append}
 
 -- ---- nodes outside the cluster publish nothing
 
-publish_cut-outside : (cl : Cluster) (o n : ℕ) (h : List Event) → IsLegal cl h → cl.nodes ≤ o → publish_cut cl o n h ≡ 0
-publish_cut-outside cl o n [] legal l = refl
-publish_cut-outside cl o n (Publish m ∷ p) legal l =
+publish_horizon-outside : (cl : Cluster) (o n : ℕ) (h : List Event) → IsLegal cl h → cl.nodes ≤ o → publish_horizon cl o n h ≡ 0
+publish_horizon-outside cl o n [] legal l = refl
+publish_horizon-outside cl o n (Publish m ∷ p) legal l =
     let inside = ltb-true m cl.nodes (legal-kept cl (Publish m) p legal).0 in
-    let before = publish_cut-outside cl o n p legal.1 l in
+    let before = publish_horizon-outside cl o n p legal.1 l in
     elim (cases_Bool (m == o)) [
       | inl same ↦ (let e = eqb-true m o same in absurd (omega arith))
-      | inr other ↦ ap (λ v. cond (v && nat_lt (length (stream cl o p)) n) (length p) (publish_cut cl o n p)) other ∙ before
+      | inr other ↦ ap (λ v. cond (v && nat_lt (length (stream cl o p)) n) (length p) (publish_horizon cl o n p)) other ∙ before
     ]
-publish_cut-outside cl o n (e ∷ p) legal l = publish_cut-outside cl o n p legal.1 l
+publish_horizon-outside cl o n (e ∷ p) legal l = publish_horizon-outside cl o n p legal.1 l
 
 -- so what their actors note is not told
-told_cut-outside : (cl : Cluster) (h : List Event) (c : ℕ → ℕ) (a : Actor) → IsLegal cl h → cl.nodes ≤ a.node → told_cut cl c h a ≡ 0
-told_cut-outside cl h c a legal l =
-    let none = publish_cut-outside cl a.node (c a.node) h legal l in
-    let low = flush_cut-below a (publish_cut cl a.node (c a.node) h) h in
+told_horizon-outside : (cl : Cluster) (h : List Event) (c : ℕ → ℕ) (a : Actor) → IsLegal cl h → cl.nodes ≤ a.node → told_horizon cl c h a ≡ 0
+told_horizon-outside cl h c a legal l =
+    let none = publish_horizon-outside cl a.node (c a.node) h legal l in
+    let low = flush_horizon-below a (publish_horizon cl a.node (c a.node) h) h in
     omega arith
 
 -- ---- sums over the nodes of the cluster
@@ -112,7 +112,7 @@ module _ (cl : Cluster) (h : List Event) (c : ℕ → ℕ) (lost : ℕ → Bool)
   piece o = cond (lost o) [] (delta_facts (fold_to cl c h o))
 
   -- a lost node tells nothing that counts
-  piece-lost : (o : ℕ) → lost o ≡ true → tally t (piece o) ≡ told_sum cl (told_cut cl c h) (λ x. (x.by.node == o) && counts x) h
+  piece-lost : (o : ℕ) → lost o ≡ true → tally t (piece o) ≡ told_sum cl (told_horizon cl c h) (λ x. (x.by.node == o) && counts x) h
   piece-lost o gone =
       let none : (x : Note) → ((x.by.node == o) && counts x) ≡ false = λ x.
       elim (cases_Bool (x.by.node == o)) [
@@ -120,58 +120,58 @@ module _ (cl : Cluster) (h : List Event) (c : ℕ → ℕ) (lost : ℕ → Bool)
         | inr off ↦ ap (λ v. v && counts x) off
       ] in
       ap (λ v. tally t (cond v [] (delta_facts (fold_to cl c h o)))) gone
-      ∙ sym (told-none cl (told_cut cl c h) (λ x. (x.by.node == o) && counts x) h none)
+      ∙ sym (told-none cl (told_horizon cl c h) (λ x. (x.by.node == o) && counts x) h none)
 
-  -- of an actor of node o, o's cut is its own
-  same-cut : (o k : ℕ) (x : Note) → lost o ≡ false → (nat_lt k (flush_cut x.by (publish_cut cl o (c o) h) h) && ((x.by.node == o) && t x.fact)) ≡ (nat_lt k (told_cut cl c h x.by) && ((x.by.node == o) && counts x))
-  same-cut o k x out =
+  -- of an actor of node o, o's horizon is its own
+  same-horizon : (o k : ℕ) (x : Note) → lost o ≡ false → (nat_lt k (flush_horizon x.by (publish_horizon cl o (c o) h) h) && ((x.by.node == o) && t x.fact)) ≡ (nat_lt k (told_horizon cl c h x.by) && ((x.by.node == o) && counts x))
+  same-horizon o k x out =
       elim (cases_Bool (x.by.node == o)) [
         | inl on ↦ (
             let node = eqb-true x.by.node o on in
-            ap (λ n. nat_lt k (flush_cut x.by (publish_cut cl n (c n) h) h) && ((x.by.node == o) && t x.fact)) (sym node)
-            ∙ ap (λ v. nat_lt k (told_cut cl c h x.by) && ((x.by.node == o) && (not v && t x.fact))) (sym (ap lost node ∙ out))
+            ap (λ n. nat_lt k (flush_horizon x.by (publish_horizon cl n (c n) h) h) && ((x.by.node == o) && t x.fact)) (sym node)
+            ∙ ap (λ v. nat_lt k (told_horizon cl c h x.by) && ((x.by.node == o) && (not v && t x.fact))) (sym (ap lost node ∙ out))
             )
         | inr off ↦
-            and_right (nat_lt k (flush_cut x.by (publish_cut cl o (c o) h) h)) ((x.by.node == o) && t x.fact) (ap (λ v. v && t x.fact) off)
-            ∙ sym (and_right (nat_lt k (told_cut cl c h x.by)) ((x.by.node == o) && counts x) (ap (λ v. v && counts x) off))
+            and_right (nat_lt k (flush_horizon x.by (publish_horizon cl o (c o) h) h)) ((x.by.node == o) && t x.fact) (ap (λ v. v && t x.fact) off)
+            ∙ sym (and_right (nat_lt k (told_horizon cl c h x.by)) ((x.by.node == o) && counts x) (ap (λ v. v && counts x) off))
       ]
 
-  piece-told : ((a : Actor) (g : Flags) → t (flagged a g) ≡ false) → IsEach cl (told_cut cl c h) h t counts piece
+  piece-told : ((a : Actor) (g : Flags) → t (flagged a g) ≡ false) → IsEach cl (told_horizon cl c h) h t counts piece
   piece-told plain o =
       elim (cases_Bool (lost o)) [
         | inl gone ↦ piece-lost o gone
         | inr out ↦
             ap (λ v. tally t (cond v [] (delta_facts (fold_to cl c h o)))) out ∙ deltas-told cl h o (c o) t plain
-            ∙ told-same cl (λ a. flush_cut a (publish_cut cl o (c o) h) h) (told_cut cl c h) (λ x. (x.by.node == o) && t x.fact) (λ x. (x.by.node == o) && counts x) h (λ k _ x. same-cut o k x out)
+            ∙ told-same cl (λ a. flush_horizon a (publish_horizon cl o (c o) h) h) (told_horizon cl c h) (λ x. (x.by.node == o) && t x.fact) (λ x. (x.by.node == o) && counts x) h (λ k _ x. same-horizon o k x out)
       ]
 
   -- what is told was noted on the cluster's nodes
-  inside : IsLegal cl h → (k : ℕ) (x : Note) → (nat_lt k (told_cut cl c h x.by) && (has_node (nodes_below cl.nodes) x.by.node && counts x)) ≡ (nat_lt k (told_cut cl c h x.by) && counts x)
+  inside : IsLegal cl h → (k : ℕ) (x : Note) → (nat_lt k (told_horizon cl c h x.by) && (has_node (nodes_below cl.nodes) x.by.node && counts x)) ≡ (nat_lt k (told_horizon cl c h x.by) && counts x)
   inside legal k x =
       elim (cases_lt x.by.node cl.nodes) [
-        | inl l ↦ ap (λ v. nat_lt k (told_cut cl c h x.by) && (v && counts x))
+        | inl l ↦ ap (λ v. nat_lt k (told_horizon cl c h x.by) && (v && counts x))
             (has_node-member (nodes_below cl.nodes) x.by.node (IsAmong-range x.by.node 0 cl.nodes (omega arith) (omega arith)))
         | inr m ↦ (
-            let none = told_cut-outside cl h c x.by legal m in
-            let untold = le-ltb k (told_cut cl c h x.by) (omega arith) in
+            let none = told_horizon-outside cl h c x.by legal m in
+            let untold = le-ltb k (told_horizon cl c h x.by) (omega arith) in
             ap (λ v. v && (has_node (nodes_below cl.nodes) x.by.node && counts x)) untold ∙ ap (λ v. v && counts x) (sym untold)
             )
       ]
 
-  -- what the deltas of nodes that are not lost tell is what their actors noted below the cuts
-  pub deltas-counted : IsLegal cl h → ((a : Actor) (g : Flags) → t (flagged a g) ≡ false) → tally t (told_facts cl lost (fold_to cl c h)) ≡ told_sum cl (told_cut cl c h) counts h
+  -- what the deltas of nodes that are not lost tell is what their actors noted below the horizons
+  pub deltas-counted : IsLegal cl h → ((a : Actor) (g : Flags) → t (flagged a g) ≡ false) → tally t (told_facts cl lost (fold_to cl c h)) ≡ told_sum cl (told_horizon cl c h) counts h
   deltas-counted legal plain =
-      told-range cl (told_cut cl c h) h t counts piece (piece-told plain) 0 cl.nodes
-      ∙ told-same cl (told_cut cl c h) (told_cut cl c h) (λ x. has_node (nodes_below cl.nodes) x.by.node && counts x) counts h (λ k _ x. inside legal k x)
+      told-range cl (told_horizon cl c h) h t counts piece (piece-told plain) 0 cl.nodes
+      ∙ told-same cl (told_horizon cl c h) (told_horizon cl c h) (λ x. has_node (nodes_below cl.nodes) x.by.node && counts x) counts h (λ k _ x. inside legal k x)
 
-pub received-told : (cl : Cluster) (h : List Event) (c : ℕ → ℕ) (a : Actor) → IsLegal cl h → received_count cl (fold_to cl c h) a ≡ told_sum cl (told_cut cl c h) (λ x. is_received a x.fact) h
+pub received-told : (cl : Cluster) (h : List Event) (c : ℕ → ℕ) (a : Actor) → IsLegal cl h → received_count cl (fold_to cl c h) a ≡ told_sum cl (told_horizon cl c h) (λ x. is_received a x.fact) h
 received-told cl h c a legal = deltas-counted cl h c (λ _. false) (is_received a) legal (λ _ _. refl)
 
-pub released-told : (cl : Cluster) (h : List Event) (c : ℕ → ℕ) (b a : Actor) → IsLegal cl h → released_count cl (fold_to cl c h) b a ≡ told_sum cl (told_cut cl c h) (λ x. is_released b a x.fact) h
+pub released-told : (cl : Cluster) (h : List Event) (c : ℕ → ℕ) (b a : Actor) → IsLegal cl h → released_count cl (fold_to cl c h) b a ≡ told_sum cl (told_horizon cl c h) (λ x. is_released b a x.fact) h
 released-told cl h c b a legal = deltas-counted cl h c (λ _. false) (is_released b a) legal (λ _ _. refl)
 
-pub sent-told : (cl : Cluster) (h : List Event) (c : ℕ → ℕ) (lost : ℕ → Bool) (a : Actor) → IsLegal cl h → told_count cl lost (fold_to cl c h) a ≡ told_sum cl (told_cut cl c h) (λ x. not (lost x.by.node) && is_sent_to a x.fact) h
+pub sent-told : (cl : Cluster) (h : List Event) (c : ℕ → ℕ) (lost : ℕ → Bool) (a : Actor) → IsLegal cl h → told_count cl lost (fold_to cl c h) a ≡ told_sum cl (told_horizon cl c h) (λ x. not (lost x.by.node) && is_sent_to a x.fact) h
 sent-told cl h c lost a legal = deltas-counted cl h c lost (is_sent_to a) legal (λ _ _. refl)
 
-pub created-told : (cl : Cluster) (h : List Event) (c : ℕ → ℕ) (lost : ℕ → Bool) (b a : Actor) → IsLegal cl h → created_count cl lost (fold_to cl c h) b a ≡ told_sum cl (told_cut cl c h) (λ x. not (lost x.by.node) && is_created b a x.fact) h
+pub created-told : (cl : Cluster) (h : List Event) (c : ℕ → ℕ) (lost : ℕ → Bool) (b a : Actor) → IsLegal cl h → created_count cl lost (fold_to cl c h) b a ≡ told_sum cl (told_horizon cl c h) (λ x. not (lost x.by.node) && is_created b a x.fact) h
 created-told cl h c lost b a legal = deltas-counted cl h c lost (is_created b a) legal (λ _ _. refl)

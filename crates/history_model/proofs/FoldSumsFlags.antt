@@ -13,7 +13,7 @@ use Rattle.history_model.specs.Streams.{entry, facts_by, flags_at, log}
 use Rattle.history_model.specs.Graph.{last_flags}
 use Rattle.history_model.proofs.Basics.{same_actor-equal}
 use Rattle.history_model.proofs.FoldSumsNotes.{notes-kinds}
-use Rattle.history_model.proofs.FoldSumsCuts.{is_flush_of, last_flush, last_flush-here, last_flush-skip, some_flags}
+use Rattle.history_model.proofs.FoldSumsHorizons.{is_flush_of, last_flush, last_flush-here, last_flush-skip, some_flags}
 use Rattle.history_model.proofs.FoldSumsLogs.{log-next, log-flushed}
 
 -- the newer flags, where there are any

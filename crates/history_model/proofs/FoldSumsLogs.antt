@@ -14,7 +14,7 @@ use Rattle.history_model.specs.Streams.{facts_by, log}
 use Rattle.history_model.proofs.Basics.{same_actor-equal}
 use Rattle.history_model.proofs.Sums.{told_sum}
 use Rattle.history_model.proofs.FoldSumsNotes.{told-same}
-use Rattle.history_model.proofs.FoldSumsCuts.{is_flush_of, last_flush, last_flush-end, last_flush-here, last_flush-other, last_flush-within}
+use Rattle.history_model.proofs.FoldSumsHorizons.{is_flush_of, last_flush, last_flush-end, last_flush-here, last_flush-other, last_flush-within}
 use Rattle.history_model.proofs.Lists.{tally-append}
 
 -- ---- events and logs
@@ -45,7 +45,7 @@ module _ (cl : Cluster) (o : ℕ) (t : Fact → Bool) where
   abbrev counts : Note → Bool
   counts = passes o t
 
-  -- one note: where b noted it, it is told by the raised cuts alone, and stands in b's log
+  -- one note: where b noted it, it is told by the raised horizons alone, and stands in b's log
   raised-step : (x : Fact) (fs : List Fact) (w l r : Bool) (m n : ℕ) → (w ≡ true → (l ≡ t x) × (r ≡ false)) → (w ≡ false → l ≡ r) → m ≡ n + tally t fs → cond l (m + 1) m ≡ cond r (n + 1) n + tally t (cond w (x ∷ fs) fs)
   raised-step x fs true l r m n own other e =
       let both = own refl in
@@ -56,14 +56,14 @@ module _ (cl : Cluster) (o : ℕ) (t : Fact → Bool) where
       ap (λ v. cond v (m + 1) m) (other refl)
       ∙ elim r as (λ v. cond v (m + 1) m ≡ cond v (n + 1) n + tally t fs) [ true ↦ omega arith | false ↦ e ]
 
-  -- v is u but for b, whose cut it raises from its last flush to the end
+  -- v is u but for b, whose horizon it raises from its last flush to the end
   pub record IsRaised (b : Actor) (u v : Actor → ℕ) (h : List Event) : Type 0 where
     pub on : (b.node == o) ≡ true
     pub others : (x : Actor) → same_actor x b ≡ false → v x ≡ u x
     pub low : u b ≡ last_flush 0 length b (length h) h
     pub high : length h ≤ v b
 
-  -- at a position between the two cuts b's own notes are told by the raised one
+  -- at a position between the two horizons b's own notes are told by the raised one
   raised-notes : (b : Actor) (u v : Actor → ℕ) (k : ℕ) → (b.node == o) ≡ true → ((x : Actor) → same_actor x b ≡ false → v x ≡ u x) → u b ≤ k → k < v b → (ns : List Note) → tally (λ x. nat_lt k (v x.by) && counts x) ns ≡ tally (λ x. nat_lt k (u x.by) && counts x) ns + tally t (facts_by b ns)
   raised-notes b u v k on others low high [] = omega arith
   raised-notes b u v k on others low high (x ∷ ns) =
@@ -79,7 +79,7 @@ module _ (cl : Cluster) (o : ℕ) (t : Fact → Bool) where
       (tally (λ y. nat_lt k (v y.by) && counts y) ns) (tally (λ y. nat_lt k (u y.by) && counts y) ns)
       own (λ other. ap (λ c. nat_lt k c && counts x) (others x.by other)) (raised-notes b u v k on others low high ns)
 
-  -- below both cuts of b the two tell the same
+  -- below both horizons of b the two tell the same
   raised-tests : (b : Actor) (u v : Actor → ℕ) (k : ℕ) → ((x : Actor) → same_actor x b ≡ false → v x ≡ u x) → k < u b → k < v b → (a : Actor) → nat_lt k (v a) ≡ nat_lt k (u a)
   raised-tests b u v k others low high a =
       elim (cases_Bool (same_actor a b)) [
@@ -87,7 +87,7 @@ module _ (cl : Cluster) (o : ℕ) (t : Fact → Bool) where
         | inr other ↦ ap (nat_lt k) (others a other)
       ]
 
-  -- raising one actor's cut from its last flush to the end adds its log
+  -- raising one actor's horizon from its last flush to the end adds its log
   pub told-raised : (b : Actor) (u v : Actor → ℕ) (h : List Event) → IsRaised b u v h → told_sum cl v counts h ≡ told_sum cl u counts h + tally t (log cl b h)
   told-raised b u v [] raised = omega arith
   told-raised b u v (e ∷ p) raised =

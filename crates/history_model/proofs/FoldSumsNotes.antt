@@ -1,4 +1,4 @@
--- Sums of told notes: how they compare with all notes, grow with the history, and depend on cuts and tests. Both the
+-- Sums of told notes: how they compare with all notes, grow with the history, and depend on horizons and tests. Both the
 -- counts of folds (`FoldSumsCounts`) and the core of soundness (`SoundnessTold`) are such sums.
 use Rattle.std.proofs.Common.{◌≡◌, ◌<◌, ◌≤◌, ◌&&◌, ℕ, Bool, true, false, cond, List, [], ◌∷◌, ◌++◌, length, map, refl, sym, ◌∙◌, ap, subst, inl, inr, arith}
 use Rattle.std.proofs.Math.Bool.{and-false}
@@ -41,7 +41,7 @@ told-next cl u t e p all before =
     let most = told-noted cl u t (e ∷ p) in
     omega arith
 
--- where the cuts are no higher than the position, nothing more is told later
+-- where the horizons are no higher than the position, nothing more is told later
 pub told-below : (cl : Cluster) (u : Actor → ℕ) (t : Note → Bool) (q p : List Event) → AreToldBelow cl u t (length p) → told_sum cl u t (q ++ p) ≡ told_sum cl u t p
 told-below cl u t [] p below = refl
 told-below cl u t (e ∷ q) p below =
@@ -58,7 +58,7 @@ told-below cl u t (e ∷ q) p below =
     length-grows [] s = omega arith
     length-grows (f ∷ r) s = let l = length-grows r s in omega arith
 
--- the sum depends on the cuts and the test only by what is told at each position of the history
+-- the sum depends on the horizons and the test only by what is told at each position of the history
 pub told-same : (cl : Cluster) (u v : Actor → ℕ) (s t : Note → Bool) (h : List Event) → ((k : ℕ) → k < length h → (x : Note) → (nat_lt k (u x.by) && s x) ≡ (nat_lt k (v x.by) && t x)) → told_sum cl u s h ≡ told_sum cl v t h
 told-same cl u v s t [] same = refl
 told-same cl u v s t (e ∷ p) same =
@@ -74,7 +74,7 @@ told-none cl u t (e ∷ p) none =
     let here = tally-none (λ n. nat_lt (length p) (u n.by) && t n) (notes cl e p) (λ x _. ap (λ v. nat_lt (length p) (u x.by) && v) (none x) ∙ and-false (nat_lt (length p) (u x.by))) in
     omega arith
 
--- an event at or above all cuts tells nothing
+-- an event at or above all horizons tells nothing
 pub told-later : (cl : Cluster) (u : Actor → ℕ) (t : Note → Bool) (e : Event) (p : List Event) → ((a : Actor) → u a ≤ length p) → told_sum cl u t (e ∷ p) ≡ told_sum cl u t p
 told-later cl u t e p low = told-below cl u t (e ∷ []) p (λ _ _ x _ _. low x.by)
 

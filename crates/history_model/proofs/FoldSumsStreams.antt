@@ -1,4 +1,4 @@
--- What the first bulletins of a stream tell: the notes below the cuts, and the flags there. `FoldSumsCounts` adds up
+-- What the first bulletins of a stream tell: the notes below the horizons, and the flags there. `FoldSumsCounts` adds up
 -- the streams of all nodes.
 use Rattle.std.proofs.Common.{◌≡◌, ◌≤◌, ◌+◌, ◌&&◌, ℕ, suc, Bool, true, false, cond, List, ◌∷◌, length, take, refl, sym, ◌∙◌, ap, inl, inr, arith}
 use Rattle.std.proofs.lemmas.Bool.{and_right, cases_Bool}
@@ -12,9 +12,9 @@ use Rattle.history_model.specs.Facts.{Flags, Fact, flagged, Note}
 use Rattle.history_model.specs.Streams.{entry, flags_at, log, stream}
 use Rattle.history_model.specs.Graph.{delta_facts, last_flags}
 use Rattle.history_model.proofs.Basics.{eqb-refl, same_actor-refl, same_actor-sym}
-use Rattle.history_model.proofs.Sums.{flags_cut, flush_cut, publish_cut, told_sum}
+use Rattle.history_model.proofs.Sums.{horizon_flags, flush_horizon, publish_horizon, told_sum}
 use Rattle.history_model.proofs.FoldSumsNotes.{told-later, told-same}
-use Rattle.history_model.proofs.FoldSumsCuts.{flags_cut-last, flush-elsewhere, flush_cut-last, is_flush_on, last_flush, last_flush-here, last_flush-later, last_flush-skip, last_flush-within, some_flags}
+use Rattle.history_model.proofs.FoldSumsHorizons.{horizon_flags-last, flush-elsewhere, flush_horizon-last, is_flush_on, last_flush, last_flush-here, last_flush-later, last_flush-skip, last_flush-within, some_flags}
 use Rattle.history_model.proofs.FoldSumsBulletins.{IsToldUntil, stream-value}
 use Rattle.history_model.proofs.FoldSumsLogs.{IsRaised, passes, told-raised}
 use Rattle.history_model.proofs.FoldSumsFlags.{entry-flags, last_flags-append, newer, newer-assoc}
@@ -30,7 +30,7 @@ module _ (cl : Cluster) (o : ℕ) (t : Fact → Bool) where
   abbrev told_until : ℕ → List Event → ℕ
   told_until k h = told_sum cl (λ a. last_flush 0 length a k h) counts h
 
-  -- the cuts of other nodes' actors do not matter
+  -- the horizons of other nodes' actors do not matter
   same-passing : (k : ℕ) (x : Note) (c d : ℕ) → ((x.by.node == o) ≡ true → c ≡ d) → (nat_lt k c && counts x) ≡ (nat_lt k d && counts x)
   same-passing k x c d same =
       elim (cases_Bool (x.by.node == o)) [
@@ -69,7 +69,7 @@ module _ (cl : Cluster) (o : ℕ) (t : Fact → Bool) where
       omega arith
 
 -- the first n bulletins of o tell what o's actors noted before their last flush that lies before o's last publish there
-pub deltas-told : (cl : Cluster) (h : List Event) (o n : ℕ) (t : Fact → Bool) → ((a : Actor) (g : Flags) → t (flagged a g) ≡ false) → tally t (delta_facts (take n (stream cl o h))) ≡ told_sum cl (λ a. flush_cut a (publish_cut cl o n h) h) (λ x. (x.by.node == o) && t x.fact) h
+pub deltas-told : (cl : Cluster) (h : List Event) (o n : ℕ) (t : Fact → Bool) → ((a : Actor) (g : Flags) → t (flagged a g) ≡ false) → tally t (delta_facts (take n (stream cl o h))) ≡ told_sum cl (λ a. flush_horizon a (publish_horizon cl o n h) h) (λ x. (x.by.node == o) && t x.fact) h
 deltas-told cl h o n t plain =
     let laws : IsToldUntil cl o ℕ (λ x y. x + y) (tally t) (told_until cl o t) = record {
       none = λ x. omega arith;
@@ -80,15 +80,15 @@ deltas-told cl h o n t plain =
       flush = told_until-flush cl o t plain;
       other = told_until-other cl o t;
     } in
-    let cut : ℕ = publish_cut cl o n h in
+    let horizon : ℕ = publish_horizon cl o n h in
     stream-value cl o (λ x y. x + y) (tally t) (told_until cl o t) laws n h
-    ∙ told-same cl (λ a. last_flush 0 length a cut h) (λ a. flush_cut a cut h) (passes o t) (passes o t) h
-    (λ k _ x. ap (λ c. nat_lt k c && passes o t x) (sym (flush_cut-last x.by cut h)))
+    ∙ told-same cl (λ a. last_flush 0 length a horizon h) (λ a. flush_horizon a horizon h) (passes o t) (passes o t) h
+    (λ k _ x. ap (λ c. nat_lt k c && passes o t x) (sym (flush_horizon-last x.by horizon h)))
 
 -- ---- flags
 
 -- the first n bulletins of a's node tell of a the flags of that flush
-pub own-flags : (cl : Cluster) (h : List Event) (a : Actor) (n : ℕ) → last_flags a (delta_facts (take n (stream cl a.node h))) ≡ flags_cut a (publish_cut cl a.node n h) h
+pub own-flags : (cl : Cluster) (h : List Event) (a : Actor) (n : ℕ) → last_flags a (delta_facts (take n (stream cl a.node h))) ≡ horizon_flags a (publish_horizon cl a.node n h) h
 own-flags cl h a n =
     let until : ℕ → List Event → Option Flags = λ k p. last_flush None (some_flags a) a k p in
     let laws : IsToldUntil cl a.node (Option Flags) newer (last_flags a) until = record {
@@ -100,4 +100,4 @@ own-flags cl h a n =
       flush = λ b p on. entry-flags cl a b p;
       other = λ e p f. last_flush-skip None (some_flags a) a e p (flush-elsewhere a a.node e (eqb-refl a.node) f);
     } in
-    stream-value cl a.node newer (last_flags a) until laws n h ∙ sym (flags_cut-last a (publish_cut cl a.node n h) h)
+    stream-value cl a.node newer (last_flags a) until laws n h ∙ sym (horizon_flags-last a (publish_horizon cl a.node n h) h)

@@ -10,7 +10,7 @@ pub mod AccountsOpen
 pub mod AccountsMail
 pub mod AccountsTaken
 pub mod FoldSumsNotes
-pub mod FoldSumsCuts
+pub mod FoldSumsHorizons
 pub mod FoldSumsLogs
 pub mod FoldSumsFlags
 pub mod FoldSumsBulletins

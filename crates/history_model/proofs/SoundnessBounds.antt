@@ -1,4 +1,4 @@
--- Two bounds at each moment of the history: a member past its cut has taken all its mail, and whoever is no member
+-- Two bounds at each moment of the history: a member past its horizon has taken all its mail, and whoever is no member
 -- holds no reference to one. `SoundnessStep` uses them at each event, `SoundnessQuiet` at the end.
 use Rattle.std.proofs.Common.{◌≡◌, ◌<◌, ◌≤◌, ◌+◌, ◌⊎◌, ℕ, Bool, false, not, cond, List, ◌++◌, length, sum_by, filter, sym, ◌∙◌, ap, inl, inr, arith}
 use Rattle.std.proofs.lemmas.List.Sums.{sum_by-take-le}
@@ -52,7 +52,7 @@ taken-carried b a p =
     let part = sum_by-take-le weight (mail b p) (takes b p) in
     omega (arith, part, carried-sum a (taken b p), carried-sum a (mail b p))
 
--- a member past its cut has taken all its mail
+-- a member past its horizon has taken all its mail
 pub no_take : (cl : Cluster) (lost : ℕ → Bool) (u : Actor → ℕ) (members : List Actor) (q p : List Event) → IsLegal cl (q ++ p) → IsToldSet cl (q ++ p) lost u members → AreTold cl lost u members p → (a : Actor) → IsAmong a members → u a ≤ length p → length (mail a p) ≤ takes a p
 no_take cl lost u members q p legal set told a member past =
     let took = received-below cl u a q p past in
@@ -64,7 +64,7 @@ no_take cl lost u members q p legal set told a member past =
     let mail_later = mail-grows a (counts_lost lost) q p in
     omega (arith, took, balance, sent_later, sent_now, sent_all, mail_others, mail_later, mail-split lost (mail a p))
 
--- past its cut, whoever is no member has given up all the references to a member that it got
+-- past its horizon, whoever is no member has given up all the references to a member that it got
 pub no_hold : (cl : Cluster) (lost : ℕ → Bool) (u : Actor → ℕ) (members : List Actor) (q p : List Event) → IsLegal cl (q ++ p) → IsToldSet cl (q ++ p) lost u members → AreTold cl lost u members p → (b a : Actor) → IsAmong a members → b.node < cl.nodes → lost b.node ≡ false → u b ≤ length p → IsAmong b members ⊎ (got cl b a p ≤ gave b a p)
 no_hold cl lost u members q p legal set told b a member node out past =
     let gave_all = released-below cl u b a q p past in

@@ -1,4 +1,4 @@
--- One event more: what is noted past the cuts gives nobody access to a member, and members past their cuts stay at
+-- One event more: what is noted past the horizons gives nobody access to a member, and members past their horizons stay at
 -- rest. So every moment of the history has what `SoundnessTold` calls told, and `SoundnessQuiet` takes the last one.
 use Rattle.std.proofs.Common.{◌≡◌, ◌<◌, ◌≤◌, ℕ, Bool, true, false, not, List, [], ◌∷◌, ◌++◌, length, map, refl, sym, ◌∙◌, subst, inl, inr, arith, append_assoc}
 use Rattle.std.proofs.lemmas.Bool.{cases_lt, false≢true, and_parts, not-true}
@@ -37,23 +37,23 @@ created-access : (b a : Actor) (f : Fact) → is_created b a f ≡ true → Give
 created-access b a (created c d) t = same_actor-equal d a (and_parts (same_actor c b) (same_actor d a) t).1
 created-access b a _ t = absurd (false≢true t)
 
--- noted past a cut on a node that is not lost, it gives nobody access to a member
+-- noted past a horizon on a node that is not lost, it gives nobody access to a member
 abbrev IsHarmless : (ℕ → Bool) → (Actor → ℕ) → List Actor → List Event → Note → Type 0
 IsHarmless lost u members p x =
     lost x.by.node ≡ false → u x.by ≤ length p → (a : Actor) → IsAmong a members → ¬ GivesAccess a x.fact
 
--- an actor that the next birth gives is no member past its cut
+-- an actor that the next birth gives is no member past its horizon
 newborn-outside : (cl : Cluster) (lost : ℕ → Bool) (u : Actor → ℕ) (members : List Actor) (n : ℕ) (p : List Event) → AreTold cl lost u members p → u (newborn n p) ≤ length p → (a : Actor) → IsAmong a members → ¬ (newborn n p ≡ a)
 newborn-outside cl lost u members n p told past a member same =
     let rest = told.rest a member (subst (λ b. u b ≤ length p) same past) in
     false≢true (sym (newborn-not_born n p) ∙ subst (λ b. is_born b p ≡ true) (sym same) rest.0)
 
--- a busy actor past its cut is no member
+-- a busy actor past its horizon is no member
 busy-outside : (cl : Cluster) (lost : ℕ → Bool) (u : Actor → ℕ) (members : List Actor) (b : Actor) (p : List Event) → AreTold cl lost u members p → is_busy b p ≡ true → u b ≤ length p → ¬ IsAmong b members
 busy-outside cl lost u members b p told busy past member =
     false≢true (sym (told.rest b member past).1 ∙ busy)
 
--- a sender holds what it sends references to, so past its cut it holds no member
+-- a sender holds what it sends references to, so past its horizon it holds no member
 send-outside : (cl : Cluster) (lost : ℕ → Bool) (u : Actor → ℕ) (members : List Actor) (q p : List Event) (f t : Actor) (refs : List Actor) → IsLegal cl (q ++ p) → IsLegal cl (Send f t refs ∷ p) → IsToldSet cl (q ++ p) lost u members → AreTold cl lost u members p → (b : Actor) → IsAmong b (t ∷ refs) → lost f.node ≡ false → u f ≤ length p → (a : Actor) → IsAmong a members → ¬ (b ≡ a)
 send-outside cl lost u members q p f t refs legal now set told b named out past a member same =
     let rules = legal-send cl f t refs p now in
@@ -103,10 +103,10 @@ told-step cl lost u members q e p legal set told =
     let set_p = subst (λ h. IsToldSet cl h lost u members) shift set in
     let harmless = notes-harmless cl lost u members (q ++ (e ∷ [])) e p legal_p now set_p told in
     let below : (a : Actor) → IsAmong a members → (x : Note) → IsAmong x (notes cl e p) → lost x.by.node ≡ false → GivesAccess a x.fact → length p < u x.by = λ a member x among out access.
-    elim (cases_lt (length p) (u x.by)) [ inl cut ↦ cut | inr past ↦ absurd (harmless x among out past a member access) ] in
+    elim (cases_lt (length p) (u x.by)) [ inl low ↦ low | inr past ↦ absurd (harmless x among out past a member access) ] in
     record {
       rest = λ a member past. elim (cases_lt (length p) (u a)) [
-        | inl cut ↦ set.at_cut a member q (e ∷ p) refl (omega (arith, cut, past))
+        | inl low ↦ set.at_horizon a member q (e ∷ p) refl (omega (arith, low, past))
         | inr before ↦ stays-at_rest cl e p now a (told.rest a member before) (λ _ m waits.
             let all = no_take cl lost u members (q ++ (e ∷ [])) p legal_p set_p told a member before in
             subst (IsAmong m) (drop_all (takes a p) (mail a p) all) waits)
@@ -122,7 +122,7 @@ told-step cl lost u members q e p legal set told =
 -- so it holds at every moment
 pub told-always : (cl : Cluster) (lost : ℕ → Bool) (u : Actor → ℕ) (members : List Actor) (p q : List Event) → IsLegal cl (q ++ p) → IsToldSet cl (q ++ p) lost u members → AreTold cl lost u members p
 told-always cl lost u members [] q legal set = record {
-  rest = λ a member past. set.at_cut a member q [] refl (omega (arith, past));
+  rest = λ a member past. set.at_horizon a member q [] refl (omega (arith, past));
   sendings = λ a member. refl;
   creations = λ b a member. refl;
 }

@@ -39,21 +39,21 @@ counts_lost lost m = cond (lost m.from.node) 1 0
 -- was given more references to a member than it is told to have released is a member
 pub record IsToldSet (cl : Cluster) (h : List Event) (lost : ℕ → Bool) (u : Actor → ℕ) (members : List Actor) : Type 0 where
   pub placed : (a : Actor) → IsAmong a members → lost a.node ≡ false
-  pub at_cut : (a : Actor) → IsAmong a members → (q p : List Event) → h ≡ q ++ p → length p ≡ u a → IsAtRest a p
+  pub at_horizon : (a : Actor) → IsAmong a members → (q p : List Event) → h ≡ q ++ p → length p ≡ u a → IsAtRest a p
   pub within : (b : Actor) → u b ≤ length h
   pub balanced : (a : Actor) → IsAmong a members → told_sum cl u (is_receipt a) h ≡ told_sum cl u (is_sending lost a) h + sum_by (counts_lost lost) (mail a h)
   pub holders : (b a : Actor) → IsAmong a members → b.node < cl.nodes → lost b.node ≡ false → IsAmong b members ⊎ (told_sum cl u (is_creation lost b a) h + sum_by (carries_from lost a) (mail b h) ≤ told_sum cl u (is_release b a) h)
 
 -- ---- moments
 
--- what holds at the moment p of the history: members past their cuts are at rest, and all that gave access to members
+-- what holds at the moment p of the history: members past their horizons are at rest, and all that gave access to members
 -- until then, noted on nodes that are not lost, is told
 pub record AreTold (cl : Cluster) (lost : ℕ → Bool) (u : Actor → ℕ) (members : List Actor) (p : List Event) : Type 0 where
   pub rest : (a : Actor) → IsAmong a members → u a ≤ length p → IsAtRest a p
   pub sendings : (a : Actor) → IsAmong a members → told_sum cl u (is_sending lost a) p ≡ noted_sum cl (is_sending lost a) p
   pub creations : (b a : Actor) → IsAmong a members → told_sum cl u (is_creation lost b a) p ≡ noted_sum cl (is_creation lost b a) p
 
--- past its cut, an actor took all that it is told to have received
+-- past its horizon, an actor took all that it is told to have received
 pub received-below : (cl : Cluster) (u : Actor → ℕ) (a : Actor) (q p : List Event) → u a ≤ length p → told_sum cl u (is_receipt a) (q ++ p) ≤ takes a p
 received-below cl u a q p past =
     let past_all : AreToldBelow cl u (is_receipt a) (length p) = λ e r x among test. subst (λ b. u b ≤ length p) (sym (noter-received cl e r a x among test)) past in

@@ -1,5 +1,5 @@
 -- What the rules of a send say, and that an idle actor that is no root stays so where no message waits for it.
--- Soundness uses this of the dead past their cuts, and stability of the members of a quiet set.
+-- Soundness uses this of the dead past their horizons, and stability of the members of a quiet set.
 use Rattle.std.proofs.Common.{◌≡◌, ◌<◌, true, false, not, List, [], ◌∷◌, ◌++◌, map, refl, sym, ◌∙◌, subst, inl, inr, IsTrue, IsFalse, nat_lt}
 use Rattle.std.proofs.lemmas.Bool.{cond_both, false≢true}
 use Rattle.std.proofs.lemmas.Bool.Decides.{Decides-ltb}

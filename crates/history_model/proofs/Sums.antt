@@ -28,24 +28,24 @@ told_sum cl u test [] = 0
 told_sum cl u test (e ∷ p) = told_sum cl u test p + tally (λ n. nat_lt (length p) (u n.by) && test n) (notes cl e p)
 
 -- the position of the last publish of o among the first n bulletins of its stream
-abbrev pub publish_cut : Cluster → ℕ → ℕ → List Event → ℕ
-publish_cut cl o n [] = 0
-publish_cut cl o n (Publish m ∷ p) =
-    if (m == o) && nat_lt (length (stream cl o p)) n then length p else publish_cut cl o n p
-publish_cut cl o n (_ ∷ p) = publish_cut cl o n p
+abbrev pub publish_horizon : Cluster → ℕ → ℕ → List Event → ℕ
+publish_horizon cl o n [] = 0
+publish_horizon cl o n (Publish m ∷ p) =
+    if (m == o) && nat_lt (length (stream cl o p)) n then length p else publish_horizon cl o n p
+publish_horizon cl o n (_ ∷ p) = publish_horizon cl o n p
 
 -- the position of the last flush of a before position t
-abbrev pub flush_cut : Actor → ℕ → List Event → ℕ
-flush_cut a t [] = 0
-flush_cut a t (Flush b ∷ p) = if same_actor b a && nat_lt (length p) t then length p else flush_cut a t p
-flush_cut a t (_ ∷ p) = flush_cut a t p
+abbrev pub flush_horizon : Actor → ℕ → List Event → ℕ
+flush_horizon a t [] = 0
+flush_horizon a t (Flush b ∷ p) = if same_actor b a && nat_lt (length p) t then length p else flush_horizon a t p
+flush_horizon a t (_ ∷ p) = flush_horizon a t p
 
 -- the flags of a at its last flush before position t
-abbrev pub flags_cut : Actor → ℕ → List Event → Option Flags
-flags_cut a t [] = None
-flags_cut a t (Flush b ∷ p) = if same_actor b a && nat_lt (length p) t then Some (flags_at a p) else flags_cut a t p
-flags_cut a t (_ ∷ p) = flags_cut a t p
+abbrev pub horizon_flags : Actor → ℕ → List Event → Option Flags
+horizon_flags a t [] = None
+horizon_flags a t (Flush b ∷ p) = if same_actor b a && nat_lt (length p) t then Some (flags_at a p) else horizon_flags a t p
+horizon_flags a t (_ ∷ p) = horizon_flags a t p
 
 -- below which position what a noted is told, where the first c bulletins of each stream are folded
-abbrev pub told_cut : Cluster → (ℕ → ℕ) → List Event → Actor → ℕ
-told_cut cl c h a = flush_cut a (publish_cut cl a.node (c a.node) h) h
+abbrev pub told_horizon : Cluster → (ℕ → ℕ) → List Event → Actor → ℕ
+told_horizon cl c h a = flush_horizon a (publish_horizon cl a.node (c a.node) h) h

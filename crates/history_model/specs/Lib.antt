@@ -12,8 +12,5 @@ pub mod Legal
 pub mod Quiescent
 pub mod Settled
 pub mod Reached
-pub mod Lines
-pub mod Report
-pub mod Limits
 pub mod Story
 pub mod Rows

@@ -1,6 +1,5 @@
 -- The definitions, computed on worked histories: legality, cuts, lost nodes and stops with their evidence.
-use Rattle.std.specs.Prelude.{◌≡◌, ℕ, Bool, true, ◌&&◌, List, [], ◌∷◌, map, refl, is_none, length, codes}
-use Rattle.std.specs.Fmt.{digits}
+use Rattle.std.specs.Prelude.{◌≡◌, ℕ, Bool, true, ◌&&◌, List, [], ◌∷◌, map, refl, is_none}
 use Rattle.crgc_ids.specs.Actor.{Actor}
 use Rattle.crgc_ids.specs.Greatest.{greatest}
 use Rattle.crgc_ids.specs.LostNodes.{lost_nodes}
@@ -13,10 +12,8 @@ use Rattle.history_model.specs.Folds.{cut_at, lost_of, folded}
 use Rattle.history_model.specs.Graph.{dead}
 use Rattle.history_model.specs.Sweeps.{stops_of}
 use Rattle.history_model.specs.Legal.{refusal}
-use Rattle.history_model.specs.Lines.{text_of}
-use Rattle.history_model.specs.Report.{report_lines, report_of, brief_of}
 
-abbrev cluster : ℕ → ℕ → Cluster
+abbrev pub cluster : ℕ → ℕ → Cluster
 cluster n v = record { nodes = n; version = v }
 
 abbrev actor : ℕ → ℕ → Actor
@@ -41,7 +38,7 @@ agrees cl m h cuts lost stops =
     × (lost_of cl (folded cl m h) ≡ lost) × (stops_of cl m h ≡ stops)
 
 -- dropped_child
-abbrev dropped_child_1 : List Event
+abbrev pub dropped_child_1 : List Event
 dropped_child_1 = onto ([]) (Seed 0 ∷ Wake (actor 0 0) ∷ Spawn (actor 0 0) ∷ Drop (actor 0 0) (actor 0 1) ∷ Rest (actor 0 0) ∷ Flush (actor 0 0) ∷ Flush (actor 0 1) ∷ Publish 0 ∷ Hand 0 0 0 ∷ [])
 
 dropped_child_1-sweep : agrees (cluster 1 1) 0 dropped_child_1 (1 ∷ []) ([]) (stop (actor 0 1) 0 0 0 ((actor 0 1) ∷ []) ∷ [])
@@ -274,21 +271,3 @@ parent_outlives_child_2 = onto (Sweep 0 ∷ parent_outlives_child_1) (Wake (acto
 parent_outlives_child_2-sweep : agrees (cluster 1 2) 0 parent_outlives_child_2 (2 ∷ []) ([]) (stop (actor 0 0) 0 0 0 ((actor 0 0) ∷ (actor 0 2) ∷ []) ∷ stop (actor 0 2) 0 0 0 ((actor 0 2) ∷ []) ∷ [])
 unfolding dead greatest lost_nodes
 parent_outlives_child_2-sweep = (refl, refl, refl, refl)
-
--- the report of a dropped child, and that of no events
-dropped_child_1-report : report_lines (cluster 1 1) (Sweep 0 ∷ dropped_child_1)
-    ≡ codes "crgc 1 nodes 1" ∷ codes "seed 0" ∷ codes "wake 0.0" ∷ codes "spawn 0.0" ∷ codes "drop 0.0 0.1"
-    ∷ codes "rest 0.0" ∷ codes "flush 0.0" ∷ codes "flush 0.1" ∷ codes "publish 0" ∷ codes "hand 0 0 0" ∷ codes "sweep 0"
-    ∷ codes "cut 0 1 lost" ∷ codes "stop 0.1 by 0 received 0 told 0 admitted 0 owners 0.1"
-    ∷ codes "end events 10 stopped 1" ∷ []
-unfolding dead greatest lost_nodes digits
-dropped_child_1-report = refl
-
-dropped_child_1-brief : brief_of (cluster 1 1) (Sweep 0 ∷ dropped_child_1)
-    ≡ text_of (codes "crgc 1 nodes 1" ∷ codes "node 0 born 2 stopped 1" ∷ codes "total born 2 stopped 1" ∷ [])
-unfolding dead greatest lost_nodes digits
-dropped_child_1-brief = refl
-
-no_events-report : length (report_of (cluster 1 1) []) ≡ 38
-unfolding digits
-no_events-report = refl

@@ -1,6 +1,6 @@
 //! The limits of a history.
 ghost use Rattle.std.specs.Prelude.{◌≡◌, true, reverse, IfOk};
-ghost use Rattle.history_model.specs.Limits.{named_count, passes_actors, passes_delta, limit_passed};
+ghost use Rattle.journal_model.specs.Limits.{named_count, passes_actors, passes_delta, limit_passed};
 ghost use Rattle.history_model.specs.Streams.{queue};
 ghost use Rattle.plain_world.specs.Built.{is_built, AreBuilt};
 

@@ -1,5 +1,5 @@
 use Rattle.std.proofs.Common.{◌≡◌, ap, Err}
-use Rattle.history_model.specs.Lines.{lines_of}
+use Rattle.journal_model.specs.Lines.{lines_of}
 use Rattle.cluster_top.specs.declared.play_fault.PlayFault.TheVariants.{Unbuilt}
 use Rattle.cluster_top.proofs.JournalLemmas.{follows-refused, follows-more}
 use Rattle.cluster_top.proofs.play.follow_all.Goals as goal

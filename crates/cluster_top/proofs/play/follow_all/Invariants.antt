@@ -1,5 +1,5 @@
 use Rattle.std.proofs.Common.{length}
-use Rattle.history_model.specs.Lines.{lines_of}
+use Rattle.journal_model.specs.Lines.{lines_of}
 use Rattle.cluster_top.proofs.JournalLemmas.{Follows}
 use Rattle.cluster_top.proofs.play.follow_all.Given as goal
 

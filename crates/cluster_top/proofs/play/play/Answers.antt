@@ -1,8 +1,8 @@
 use Rattle.std.proofs.Common.{◌≡◌, ◌≤◌, sym, ◌∙◌, ap, subst, arith, map, Err, List}
 use Rattle.history_model.specs.declared.events.Event.{Event}
 use Rattle.history_model.specs.Cluster.{Cluster}
-use Rattle.history_model.specs.Lines.{lines_of}
-use Rattle.cluster_top.specs.Journal.{header_line, MayFollow, after, event_line}
+use Rattle.journal_model.specs.Lines.{lines_of, header_line, event_line}
+use Rattle.cluster_top.specs.Journal.{MayFollow, after}
 use Rattle.cluster_top.specs.declared.play_fault.PlayFault.TheVariants.{Unbuilt}
 use Rattle.cluster_top.proofs.CollectedLemmas.{legal-rightly_collected}
 use Rattle.cluster_top.proofs.JournalLemmas.{lines-refused, journal-of_lines, cluster-is}

@@ -1,5 +1,5 @@
 use Rattle.std.proofs.Common.{◌≡◌, ◌++◌, map, take}
-use Rattle.history_model.specs.Lines.{spell, stop_words, text_of}
+use Rattle.journal_model.specs.Lines.{spell, stop_words, text_of}
 use Rattle.event_lines.proofs.verdict.write_stops.Given as goal
 
 abbrev pub invariant-loop-stop : goal.invariant-loop-stop

@@ -1,5 +1,5 @@
 use Rattle.std.proofs.Common.{◌≡◌, ◌++◌, map, take}
-use Rattle.history_model.specs.Lines.{actor_word}
+use Rattle.journal_model.specs.Lines.{actor_word}
 use Rattle.event_lines.specs.Words.{spaced}
 use Rattle.event_lines.proofs.words.write_actors.Given as goal
 

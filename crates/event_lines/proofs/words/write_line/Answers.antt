@@ -1,5 +1,5 @@
 use Rattle.std.proofs.Common.{◌∙◌, map}
-use Rattle.history_model.specs.Lines.{actor_word}
+use Rattle.journal_model.specs.Lines.{actor_word}
 use Rattle.event_lines.specs.Words.{bytes_of}
 use Rattle.event_lines.proofs.WordsLaws.{line-written, OnOk-weaker}
 use Rattle.event_lines.proofs.words.write_line.Goals as goal

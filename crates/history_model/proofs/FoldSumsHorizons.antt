@@ -10,7 +10,7 @@ use Rattle.history_model.specs.Cluster.{Cluster, same_actor}
 use Rattle.history_model.specs.Facts.{Flags}
 use Rattle.history_model.specs.Streams.{flags_at, stream}
 use Rattle.history_model.proofs.Basics.{same_actor-equal}
-use Rattle.history_model.proofs.Sums.{publish_cut, flush_cut, flags_cut}
+use Rattle.history_model.proofs.Sums.{publish_horizon, flush_horizon, horizon_flags}
 
 -- ---- the last flush before a position
 
@@ -69,31 +69,31 @@ module _ {X : Type 0} (none : X) (get : List Event → X) (a : Actor) where
   pub last_flush-skip : (e : Event) (p : List Event) → is_flush_of a e ≡ false → last_flush none get a (suc (length p)) (e ∷ p) ≡ last_flush none get a (length p) p
   last_flush-skip e p f = last_flush-other (suc (length p)) e p f ∙ last_flush-end (suc (length p)) p (omega arith)
 
--- the cut and the flags at it are such values
-pub flush_cut-last : (a : Actor) (t : ℕ) (h : List Event) → flush_cut a t h ≡ last_flush 0 length a t h
-flush_cut-last a t [] = refl
-flush_cut-last a t (Flush b ∷ p) = ap (λ x. cond (same_actor b a && nat_lt (length p) t) (length p) x) (flush_cut-last a t p)
-flush_cut-last a t (e ∷ p) = flush_cut-last a t p
+-- the horizon and the flags at it are such values
+pub flush_horizon-last : (a : Actor) (t : ℕ) (h : List Event) → flush_horizon a t h ≡ last_flush 0 length a t h
+flush_horizon-last a t [] = refl
+flush_horizon-last a t (Flush b ∷ p) = ap (λ x. cond (same_actor b a && nat_lt (length p) t) (length p) x) (flush_horizon-last a t p)
+flush_horizon-last a t (e ∷ p) = flush_horizon-last a t p
 
 -- the flags of a, as far as it was flushed
 abbrev pub some_flags : Actor → List Event → Option Flags
 some_flags a p = Some (flags_at a p)
 
-pub flags_cut-last : (a : Actor) (t : ℕ) (h : List Event) → flags_cut a t h ≡ last_flush None (some_flags a) a t h
-flags_cut-last a t [] = refl
-flags_cut-last a t (Flush b ∷ p) = ap (λ x. cond (same_actor b a && nat_lt (length p) t) (Some (flags_at a p)) x) (flags_cut-last a t p)
-flags_cut-last a t (e ∷ p) = flags_cut-last a t p
+pub horizon_flags-last : (a : Actor) (t : ℕ) (h : List Event) → horizon_flags a t h ≡ last_flush None (some_flags a) a t h
+horizon_flags-last a t [] = refl
+horizon_flags-last a t (Flush b ∷ p) = ap (λ x. cond (same_actor b a && nat_lt (length p) t) (Some (flags_at a p)) x) (horizon_flags-last a t p)
+horizon_flags-last a t (e ∷ p) = horizon_flags-last a t p
 
--- ---- the flush event at a cut
+-- ---- the flush event at a horizon
 
 -- a flush of a before position t, at position u and with the flags g
 abbrev pub IsFlushAt : Actor → ℕ → List Event → ℕ → Flags → Type 0
 IsFlushAt a t h u g =
     (q : List Event) × (p : List Event) × (h ≡ q ++ (Flush a ∷ p)) × (u ≡ length p) × (length p < t) × (g ≡ flags_at a p)
 
-flush-here : (a : Actor) (t : ℕ) (b : Actor) (p : List Event) (g : Flags) → (flags_cut a t p ≡ Some g → IsFlushAt a t p (flush_cut a t p) g) → flags_cut a t (Flush b ∷ p) ≡ Some g → IsFlushAt a t (Flush b ∷ p) (flush_cut a t (Flush b ∷ p)) g
+flush-here : (a : Actor) (t : ℕ) (b : Actor) (p : List Event) (g : Flags) → (horizon_flags a t p ≡ Some g → IsFlushAt a t p (flush_horizon a t p) g) → horizon_flags a t (Flush b ∷ p) ≡ Some g → IsFlushAt a t (Flush b ∷ p) (flush_horizon a t (Flush b ∷ p)) g
 flush-here a t b p g before =
-    let Here : Bool → Type 0 = λ v. (same_actor b a && nat_lt (length p) t) ≡ v → cond v (Some (flags_at a p)) (flags_cut a t p) ≡ Some g → IsFlushAt a t (Flush b ∷ p) (cond v (length p) (flush_cut a t p)) g in
+    let Here : Bool → Type 0 = λ v. (same_actor b a && nat_lt (length p) t) ≡ v → cond v (Some (flags_at a p)) (horizon_flags a t p) ≡ Some g → IsFlushAt a t (Flush b ∷ p) (cond v (length p) (flush_horizon a t p)) g in
     let here : Here (same_actor b a && nat_lt (length p) t) = elim (same_actor b a && nat_lt (length p) t) as Here [
       | true ↦ λ tests e. (
           let both = and_parts (same_actor b a) (nat_lt (length p) t) tests in
@@ -103,41 +103,41 @@ flush-here a t b p g before =
     ] in
     here refl
 
--- the flags at a cut are those of a flush event below it, whose position is the cut
-pub flags-at-cut : (a : Actor) (t : ℕ) (h : List Event) (g : Flags) → flags_cut a t h ≡ Some g → IsFlushAt a t h (flush_cut a t h) g
-flags-at-cut a t [] g e = absurd (cc)
-flags-at-cut a t (Flush b ∷ p) g e = flush-here a t b p g (flags-at-cut a t p g) e
-flags-at-cut a t (e ∷ p) g s =
-    let found = flags-at-cut a t p g s in
+-- the flags at a horizon are those of a flush event below it, whose position is the horizon
+pub flags-at-horizon : (a : Actor) (t : ℕ) (h : List Event) (g : Flags) → horizon_flags a t h ≡ Some g → IsFlushAt a t h (flush_horizon a t h) g
+flags-at-horizon a t [] g e = absurd (cc)
+flags-at-horizon a t (Flush b ∷ p) g e = flush-here a t b p g (flags-at-horizon a t p g) e
+flags-at-horizon a t (e ∷ p) g s =
+    let found = flags-at-horizon a t p g s in
     (e ∷ found.0, found.1, ap (λ l. e ∷ l) found.2, found.3, found.4, found.5)
 
--- ---- cuts lie within the history
+-- ---- horizons lie within the history
 
-pub flush_cut-within : (a : Actor) (t : ℕ) (h : List Event) → flush_cut a t h ≤ length h
-flush_cut-within a t [] = omega arith
-flush_cut-within a t (Flush b ∷ p) =
-    let before = flush_cut-within a t p in
-    elim (same_actor b a && nat_lt (length p) t) as (λ v. cond v (length p) (flush_cut a t p) ≤ suc (length p)) [ true ↦ omega arith | false ↦ omega arith ]
-flush_cut-within a t (e ∷ p) = let before = flush_cut-within a t p in omega arith
+pub flush_horizon-within : (a : Actor) (t : ℕ) (h : List Event) → flush_horizon a t h ≤ length h
+flush_horizon-within a t [] = omega arith
+flush_horizon-within a t (Flush b ∷ p) =
+    let before = flush_horizon-within a t p in
+    elim (same_actor b a && nat_lt (length p) t) as (λ v. cond v (length p) (flush_horizon a t p) ≤ suc (length p)) [ true ↦ omega arith | false ↦ omega arith ]
+flush_horizon-within a t (e ∷ p) = let before = flush_horizon-within a t p in omega arith
 
 pub last_flush-within : (a : Actor) (t : ℕ) (h : List Event) → last_flush 0 length a t h ≤ length h
-last_flush-within a t h = subst (λ c. c ≤ length h) (flush_cut-last a t h) (flush_cut-within a t h)
+last_flush-within a t h = subst (λ c. c ≤ length h) (flush_horizon-last a t h) (flush_horizon-within a t h)
 
-pub publish_cut-within : (cl : Cluster) (o n : ℕ) (h : List Event) → publish_cut cl o n h ≤ length h
-publish_cut-within cl o n [] = omega arith
-publish_cut-within cl o n (Publish m ∷ p) =
-    let before = publish_cut-within cl o n p in
-    elim ((m == o) && nat_lt (length (stream cl o p)) n) as (λ v. cond v (length p) (publish_cut cl o n p) ≤ suc (length p)) [ true ↦ omega arith | false ↦ omega arith ]
-publish_cut-within cl o n (e ∷ p) = let before = publish_cut-within cl o n p in omega arith
+pub publish_horizon-within : (cl : Cluster) (o n : ℕ) (h : List Event) → publish_horizon cl o n h ≤ length h
+publish_horizon-within cl o n [] = omega arith
+publish_horizon-within cl o n (Publish m ∷ p) =
+    let before = publish_horizon-within cl o n p in
+    elim ((m == o) && nat_lt (length (stream cl o p)) n) as (λ v. cond v (length p) (publish_horizon cl o n p) ≤ suc (length p)) [ true ↦ omega arith | false ↦ omega arith ]
+publish_horizon-within cl o n (e ∷ p) = let before = publish_horizon-within cl o n p in omega arith
 
--- a cut lies below the position
-pub flush_cut-below : (a : Actor) (t : ℕ) (h : List Event) → flush_cut a t h ≤ t
-flush_cut-below a t [] = omega arith
-flush_cut-below a t (Flush b ∷ p) =
-    let Low : Bool → Type 0 = λ v. (same_actor b a && nat_lt (length p) t) ≡ v → cond v (length p) (flush_cut a t p) ≤ t in
+-- a horizon lies below the position
+pub flush_horizon-below : (a : Actor) (t : ℕ) (h : List Event) → flush_horizon a t h ≤ t
+flush_horizon-below a t [] = omega arith
+flush_horizon-below a t (Flush b ∷ p) =
+    let Low : Bool → Type 0 = λ v. (same_actor b a && nat_lt (length p) t) ≡ v → cond v (length p) (flush_horizon a t p) ≤ t in
     let low : Low (same_actor b a && nat_lt (length p) t) = elim (same_actor b a && nat_lt (length p) t) as Low [
       | true ↦ λ e. (let less = ltb-true (length p) t (and_parts (same_actor b a) (nat_lt (length p) t) e).1 in omega arith)
-      | false ↦ λ _. flush_cut-below a t p
+      | false ↦ λ _. flush_horizon-below a t p
     ] in
     low refl
-flush_cut-below a t (e ∷ p) = flush_cut-below a t p
+flush_horizon-below a t (e ∷ p) = flush_horizon-below a t p

@@ -6,7 +6,7 @@ use Rattle.history_model.specs.declared.events.Event.TheVariants.{Sweep}
 use Rattle.history_model.specs.Cluster.{Cluster, births}
 use Rattle.history_model.specs.Folds.{cut_at, lost_of, folded}
 use Rattle.history_model.specs.Sweeps.{stopped_by, stops_of}
-use Rattle.history_model.specs.Lines.{spell, header_words, event_words, cut_words, stop_words, end_words, text_of}
+use Rattle.journal_model.specs.Lines.{spell, header_line, event_line, cut_words, stop_words, end_words, text_of}
 
 -- the lines that a sweep of m adds: its cut and its stops
 abbrev pub verdict_lines : Cluster → ℕ → List Event → List (List ℕ)
@@ -17,8 +17,8 @@ verdict_lines cl m h =
 -- each event's line, and after a sweep its verdict
 abbrev pub told_lines : Cluster → List Event → List (List ℕ)
 told_lines cl [] = []
-told_lines cl (Sweep m ∷ p) = told_lines cl p ++ spell (event_words (Sweep m)) ∷ verdict_lines cl m p
-told_lines cl (e ∷ p) = told_lines cl p ++ spell (event_words e) ∷ []
+told_lines cl (Sweep m ∷ p) = told_lines cl p ++ event_line (Sweep m) ∷ verdict_lines cl m p
+told_lines cl (e ∷ p) = told_lines cl p ++ event_line e ∷ []
 
 -- how many actors of node n were stopped
 abbrev pub stopped_on : Cluster → ℕ → List Event → ℕ
@@ -33,7 +33,7 @@ stopped_total cl (_ ∷ p) = stopped_total cl p
 
 abbrev pub report_lines : Cluster → List Event → List (List ℕ)
 report_lines cl h =
-    spell (header_words cl) ∷ (told_lines cl h ++ spell (end_words (length h) (stopped_total cl h)) ∷ [])
+    header_line cl ∷ (told_lines cl h ++ spell (end_words (length h) (stopped_total cl h)) ∷ [])
 
 -- the report of the history
 abbrev pub report_of : Cluster → List Event → List ℕ
@@ -51,4 +51,4 @@ total_words cl h =
 -- the report in brief
 abbrev pub brief_of : Cluster → List Event → List ℕ
 brief_of cl h =
-    text_of (spell (header_words cl) ∷ (map (λ n. spell (node_words cl h n)) (nodes_below cl.nodes) ++ spell (total_words cl h) ∷ []))
+    text_of (header_line cl ∷ (map (λ n. spell (node_words cl h n)) (nodes_below cl.nodes) ++ spell (total_words cl h) ∷ []))

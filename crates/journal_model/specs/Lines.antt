@@ -39,6 +39,13 @@ event_words (Remove m n) = codes "remove" ∷ decimal m ∷ decimal n ∷ []
 event_words (Hand m o k) = codes "hand" ∷ decimal m ∷ decimal o ∷ decimal k ∷ []
 event_words (Sweep n) = codes "sweep" ∷ decimal n ∷ []
 
+-- the line of a header, and the line of an event
+abbrev pub header_line : Cluster → List ℕ
+header_line cl = spell (header_words cl)
+
+abbrev pub event_line : Event → List ℕ
+event_line e = spell (event_words e)
+
 -- the counts of the cut, one a node in order, then the lost nodes, rising
 abbrev pub cut_words : ℕ → List ℕ → List ℕ → List (List ℕ)
 cut_words m counts lost = codes "cut" ∷ decimal m ∷ (map decimal counts ++ codes "lost" ∷ map decimal lost)
@@ -99,6 +106,10 @@ without_empty_end (x ∷ y ∷ xs) = x ∷ without_empty_end (y ∷ xs)
 abbrev pub lines_of : List ℕ → List (List ℕ)
 lines_of text = without_empty_end (slice_split (λ b. b == 10) text)
 
--- the text of some lines, each of which ends with a line feed
+-- the bytes of a line, which ends with a line feed
+abbrev pub line_of : List ℕ → List ℕ
+line_of bytes = bytes ++ 10 ∷ []
+
+-- the text of some lines
 abbrev pub text_of : List (List ℕ) → List ℕ
-text_of lines = flat_map (λ l. l ++ 10 ∷ []) lines
+text_of lines = flat_map line_of lines

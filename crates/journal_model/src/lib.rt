@@ -1,0 +1,2 @@
+//! What a journal and a report look like, and the limits of a history: definitions alone.
+#![tactic(auto)]
