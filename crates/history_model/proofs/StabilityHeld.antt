@@ -1,12 +1,12 @@
 -- The next event of a legal history gives nobody a reference to a member of a quiet set: nobody gives one, and no
 -- message that is taken carries one.
-use Rattle.std.proofs.Common.{inl, ◌≡◌, ◌≤◌, ◌+◌, ◌==◌, ℕ, zero, suc, true, List, [], ◌∷◌, take, drop, refl, sym, ◌∙◌, ap, subst, arith, if◌then◌else◌, filter, add-one, add-zero}
+use Rattle.std.proofs.Common.{inl, ◌≡◌, ◌≤◌, ◌+◌, ◌==◌, ℕ, zero, suc, true, List, [], ◌∷◌, take, drop, refl, sym, ◌∙◌, ap, subst, arith, if◌then◌else◌, filter, add-one, add-zero, append-nil}
 use Rattle.std.proofs.lemmas.Bool.{and_right, cond_both, false_from_ne_true, false≢true}
 use Rattle.std.proofs.lemmas.List.{take-append-le}
 use Rattle.crgc_ids.specs.Actor.{Actor}
 use Rattle.crgc_ids.specs.Members.{IsAmong}
 use Rattle.history_model.specs.declared.events.Event.{Event}
-use Rattle.history_model.specs.declared.events.Event.TheVariants.{Seed, Tie, Take, Spawn, Send, Admit}
+use Rattle.history_model.specs.declared.events.Event.TheVariants.{Seed, Tie, Take, Spawn}
 use Rattle.history_model.specs.Tally.{tally}
 use Rattle.history_model.specs.Cluster.{Cluster, same_actor, newborn, is_born}
 use Rattle.history_model.specs.Messages.{Message, admitted_by, is_to, mail, takes, taken, waiting}
@@ -56,7 +56,7 @@ gifts-next cl (Spawn x) p q legal quiet b a member =
     let third = cond_both (cl.version == 2) (note_by x (created new x) ∷ []) [] (λ ns. tally (is_note_of b a) ns ≡ 0)
     (λ _. other_target b a x new x [] (λ e. false≢true (sym (quiet.idle a member) ∙ subst (λ y. is_busy y p ≡ true) e busy))) (λ _. refl) in
     omega arith
-gifts-next cl _ p q legal quiet b a member = refl
+gifts-next cl _ p q legal quiet b a member = omega arith
 
 -- ---- what taken messages carry
 
@@ -86,16 +86,14 @@ carried-next cl (Take x) p q legal quiet b a member =
     let live = waiting-live p x (legal-kept cl (Take x) p legal).1.0 some.0 (subst (IsAmong some.0) (sym some.2) (inl refl)) in
     let none = tally-absent a some.0.refs (quiet.not_carried some.0 live.0 a member) in
     let Same : ℕ → Type 0 = λ n. carried a (take n (mail b p)) ≡ carried a (taken b p) in
-    cond_both (same_actor x b) (takes b p + 1) (takes b p) Same
+    ap (λ ms. carried a (take (takes b (Take x ∷ p)) ms)) (append-nil (mail b p))
+    ∙ cond_both (same_actor x b) (takes b p + 1) (takes b p) Same
     (λ s.
     let first : drop (takes b p) (mail b p) ≡ some.0 ∷ some.1 = subst (λ y. waiting y p ≡ some.0 ∷ some.1) (same_actor-equal x b s) some.2 in
     ap (λ n. carried a (take n (mail b p))) (add-one (takes b p)) ∙ carried-take_suc a (takes b p) (mail b p) some.0 some.1 first ∙ ap (λ n. carried a (taken b p) + n) none ∙ add-zero (carried a (taken b p)))
     (λ _. refl)
-carried-next cl (Send f t refs) p q legal quiet b a member =
-    ap (carried a) (take-append-le (takes b p) (mail b p) (filter (is_to b) (admitted_by (Send f t refs) p)) (takes-mail cl p legal.1 b))
-carried-next cl (Admit s d k) p q legal quiet b a member =
-    ap (carried a) (take-append-le (takes b p) (mail b p) (filter (is_to b) (admitted_by (Admit s d k) p)) (takes-mail cl p legal.1 b))
-carried-next cl _ p q legal quiet b a member = refl
+carried-next cl e p q legal quiet b a member =
+    ap (carried a) (take-append-le (takes b p) (mail b p) (filter (is_to b) (admitted_by e p)) (takes-mail cl p legal.1 b))
 
 -- nobody comes to hold more references to a member
 pub held-next : (cl : Cluster) (e : Event) (p : List Event) (q : List Actor) → IsLegal cl (e ∷ p) → IsQuietSet cl p q → (b a : Actor) → IsAmong a q

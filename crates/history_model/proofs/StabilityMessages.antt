@@ -8,10 +8,10 @@ use Rattle.crgc_ids.specs.Actor.{Actor}
 use Rattle.crgc_ids.specs.Members.{IsAmong}
 use Rattle.crgc_ids.proofs.MembersLaws.{IsAmong-append_cases, IsAmong-from_filter}
 use Rattle.history_model.specs.declared.events.Event.{Event}
-use Rattle.history_model.specs.declared.events.Event.TheVariants.{Take, Send, Admit, Repeat}
+use Rattle.history_model.specs.declared.events.Event.TheVariants.{Send, Admit, Repeat}
 use Rattle.history_model.specs.Tally.{tally}
-use Rattle.history_model.specs.Cluster.{Cluster, same_actor}
-use Rattle.history_model.specs.Messages.{Message, sent, message_at, is_admit, is_lose, is_repeat, is_removal, was_admitted, admitted_by, is_to, mail, takes, waiting, copies, is_closed}
+use Rattle.history_model.specs.Cluster.{Cluster}
+use Rattle.history_model.specs.Messages.{Message, sent, message_at, is_admit, is_lose, is_repeat, is_removal, is_take_by, was_admitted, admitted_by, is_to, mail, takes, waiting, copies, is_closed}
 use Rattle.history_model.specs.Legal.{IsLegal}
 use Rattle.history_model.specs.Quiescent.{IsOnLink, IsLive}
 use Rattle.history_model.proofs.Basics.{legal-kept}
@@ -48,13 +48,12 @@ waiting-appended cl p legal b more m among =
 
 waiting-next : (cl : Cluster) (e : Event) (p : List Event) → IsLegal cl (e ∷ p) → (b : Actor) (m : Message) → IsAmong m (waiting b (e ∷ p))
     → IsAmong m (waiting b p) ⊎ IsAmong m (admitted_by e p)
-waiting-next cl (Take x) p legal b m among =
-    let Before : ℕ → Type 0 = λ n. IsAmong m (drop n (mail b p)) → IsAmong m (waiting b p) in
-    let taken : Before (takes b p + 1) = subst Before (sym (add-one (takes b p))) (IsAmong-drop_suc m (takes b p) (mail b p)) in
-    inl (cond_both (same_actor x b) (takes b p + 1) (takes b p) Before (λ _. taken) (λ _ k. k) among)
-waiting-next cl (Send f t refs) p legal b m among = waiting-appended cl p legal.1 b (admitted_by (Send f t refs) p) m among
-waiting-next cl (Admit s d k) p legal b m among = waiting-appended cl p legal.1 b (admitted_by (Admit s d k) p) m among
-waiting-next cl _ p legal b m among = inl among
+waiting-next cl e p legal b m among =
+    let all = mail b p ++ filter (is_to b) (admitted_by e p) in
+    let Waits : ℕ → Type 0 = λ n. IsAmong m (drop n all) → IsAmong m (waiting b p) ⊎ IsAmong m (admitted_by e p) in
+    let kept : Waits (takes b p) = waiting-appended cl p legal.1 b (admitted_by e p) m in
+    let taken : Waits (takes b p + 1) = subst Waits (sym (add-one (takes b p))) (λ later. kept (IsAmong-drop_suc m (takes b p) all later)) in
+    cond_both (is_take_by b e) (takes b p + 1) (takes b p) Waits (λ _. taken) (λ _. kept) among
 
 -- ---- what is under way
 
