@@ -41,3 +41,7 @@ pub mod CompletenessMail
 pub mod Completeness
 pub mod Stopped
 pub mod Supervision
+pub mod CompactionGrowth
+pub mod CompactionDead
+pub mod CompactedSweeps
+mod CompactionExamples

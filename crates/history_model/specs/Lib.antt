@@ -12,5 +12,6 @@ pub mod Legal
 pub mod Quiescent
 pub mod Settled
 pub mod Reached
+pub mod Compaction
 pub mod Story
 pub mod Rows
