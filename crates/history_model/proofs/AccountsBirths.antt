@@ -19,11 +19,11 @@ use Rattle.history_model.proofs.Lists.{Each, each-none, each-more, each-one, amo
 -- ---- members of lists
 
 module _ {A : Type 0} where
-  among-then : (b : Bool) (x : A) (xs : List A) → IsAmong x (cond b xs []) → IsAmong x xs
+  pub among-then : (b : Bool) (x : A) (xs : List A) → IsAmong x (cond b xs []) → IsAmong x xs
   among-then true x xs among = among
   among-then false x xs among = absurd among
 
-  among-else : (b : Bool) (x : A) (xs : List A) → IsAmong x (cond b [] xs) → IsAmong x xs
+  pub among-else : (b : Bool) (x : A) (xs : List A) → IsAmong x (cond b [] xs) → IsAmong x xs
   among-else true x xs among = absurd among
   among-else false x xs among = among
 
