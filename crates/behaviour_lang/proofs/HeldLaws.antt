@@ -1,5 +1,5 @@
 -- The bound names as the code holds them.
-use Rattle.std.proofs.Common.{◌≡◌, ◌<◌, ◌≤◌, ◌+◌, ℕ, zero, suc, Bool, true, false, not, cond, if◌then◌else◌, List, [], ◌∷◌, ◌++◌, length, drop, append_assoc, replicate, slice_get, get_or, set, Option, Some, None, refl, sym, ◌∙◌, ap, arith}
+use Rattle.std.proofs.Common.{◌≡◌, ◌<◌, ◌≤◌, ◌+◌, ℕ, zero, suc, Bool, true, false, not, cond, if◌then◌else◌, List, [], ◌∷◌, ◌++◌, length, map, drop, append_assoc, replicate, slice_get, get_or, set, Option, Some, None, refl, sym, ◌∙◌, ap, arith}
 use Rattle.std.specs.Prelude.{codes}
 use mathlib.Core.Bool.{true≢false}
 use Rattle.std.proofs.lemmas.Bool.{eq-eqb, ne_eqb}
@@ -11,6 +11,7 @@ use Rattle.behaviour_lang.specs.Bound.{Names, bound, without, bind, first_messag
 use Rattle.behaviour_lang.specs.Held.{flagged, first_flag}
 use Rattle.behaviour_lang.specs.Turn.{all_there}
 use Rattle.behaviour_lang.specs.Rows.{Row}
+use Rattle.behaviour_lang.specs.declared.instr.Name.{Name}
 use Rattle.behaviour_lang.specs.declared.instr.Name.TheVariants.{Own, Message, Local}
 
 -- the references of a message are all bound at first
@@ -181,3 +182,29 @@ found_before refs (Some more) = Some (refs ++ more)
 pub found_before-push : (refs : List Actor) (a : Actor) (more : Option (List Actor)) → found_before refs (all_there (Some a) more) ≡ found_before (refs ++ a ∷ []) more
 found_before-push refs a None = refl
 found_before-push refs a (Some more) = ap Some (sym (append_assoc refs (a ∷ []) more))
+
+-- a message name that is bound has its flag
+pub flag_of_bound : (k : ℕ) (refs : List Actor) (flags : List Bool) (rows : List Row) (a : Actor) → bound (Message k) (flagged 0 refs flags ++ local_names rows) ≡ Some a → get_or flags k false ≡ true
+flag_of_bound k refs flags rows a e = by_flag (get_or flags k false) (slice_get refs k) (sym (bound-flagged k 0 k refs flags rows (omega arith)) ∙ e)
+  where
+    by_flag : (v : Bool) (r : Option Actor) → (if v then r else None) ≡ Some a → v ≡ true
+    by_flag true r e = refl
+    by_flag false r e = absurd (none-some a e)
+
+-- a flag that was taken back is set again
+pub set_back : (flags : List Bool) (k : ℕ) → get_or flags k false ≡ true → set (set flags k false) k true ≡ flags
+set_back [] k e = absurd (true≢false (sym e))
+set_back (f ∷ flags) zero e = ap (λ f. f ∷ flags) (sym e)
+set_back (f ∷ flags) (suc k) e = ap (λ flags. f ∷ flags) (set_back flags k e)
+
+abbrev row_of : Name × Actor → Row
+row_of (Local x, a) = (x, a)
+row_of (y, a) = ([], a)
+
+-- local names give their rows back
+rows_back : (rows : List Row) → map row_of (local_names rows) ≡ rows
+rows_back [] = refl
+rows_back (row ∷ rows) = ap (λ rest. row ∷ rest) (rows_back rows)
+
+pub local_names_same : (rows rows' : List Row) → local_names rows ≡ local_names rows' → rows ≡ rows'
+local_names_same rows rows' e = sym (rows_back rows) ∙ ap (map row_of) e ∙ rows_back rows'

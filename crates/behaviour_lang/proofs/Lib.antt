@@ -4,5 +4,6 @@ pub mod HeldLaws
 pub mod MadeLaws
 pub mod NameLaws
 pub mod RowLaws
+pub mod RunLaws
 pub mod StepLaws
 mod TurnExamples

@@ -1,6 +1,7 @@
 -- What `bound` finds where a name is taken away.
 use Rattle.std.proofs.Common.{◌≡◌, ℕ, true, false, not, cond, if◌then◌else◌, List, [], ◌∷◌, Some, None, refl, sym, ap}
 use Rattle.std.proofs.lemmas.Option.{none-some}
+use Rattle.std.specs.Cmp.Lexicographic.{nat_list_eq_equiv}
 use Rattle.crgc_ids.specs.Actor.{Actor}
 use Rattle.behaviour_lang.specs.Bound.{Names, means, bound, without, bind, is_before, is_message, first_message, past_first_message}
 use Rattle.behaviour_lang.specs.declared.instr.Name.{Name}
@@ -65,3 +66,19 @@ first-bind x a ((y, b) ∷ names) =
       | true ↦ refl
       | false ↦ ap (λ later. if is_message (y, b) then Some b else later) rest
     ]
+
+-- a name that was bound is taken away again
+pub without-bind : (x : List ℕ) (a : Actor) (names : Names) → bound (Local x) names ≡ None → without (Local x) (bind x a names) ≡ names
+without-bind x a [] e = rw (nat_list_eq_equiv.refl x) refl
+without-bind x a ((y, b) ∷ names) e =
+    let same = without_unbound (Local x) ((y, b) ∷ names) e in
+    elim (is_before x y) as (λ v. without (Local x) (if v then (Local x, a) ∷ (y, b) ∷ names else (y, b) ∷ bind x a names) ≡ (y, b) ∷ names) [
+      | true ↦ rw (nat_list_eq_equiv.refl x) same
+      | false ↦ later e (without-bind x a names)
+    ]
+  where
+    later : (if means (Local x) y then Some b else bound (Local x) names) ≡ None → (bound (Local x) names ≡ None → without (Local x) (bind x a names) ≡ names) → without (Local x) ((y, b) ∷ bind x a names) ≡ (y, b) ∷ names
+    later e rest = elim (means (Local x) y) as (λ v. (if v then Some b else bound (Local x) names) ≡ None → cond (not v) ((y, b) ∷ without (Local x) (bind x a names)) (without (Local x) (bind x a names)) ≡ (y, b) ∷ names) [
+      | true ↦ λ there. absurd (none-some b (sym there))
+      | false ↦ λ none. ap (λ names. (y, b) ∷ names) (rest none)
+    ] e

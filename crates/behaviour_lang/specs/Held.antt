@@ -1,9 +1,9 @@
 -- How the code holds the bound names: the references of the message, which of them are still bound, and the local names.
-use Rattle.std.specs.Prelude.{ℕ, ◌+◌, Bool, true, false, List, [], ◌∷◌, ◌++◌, Option, Some, None}
+use Rattle.std.specs.Prelude.{ℕ, ◌≡◌, ◌+◌, slice_index_or, slice_set, Bool, true, false, List, [], ◌∷◌, ◌++◌, Option, Some, None}
 use Rattle.crgc_ids.specs.Actor.{Actor}
-use Rattle.behaviour_lang.specs.Bound.{Names, local_names}
+use Rattle.behaviour_lang.specs.Bound.{Names, bind, bound, local_names}
 use Rattle.behaviour_lang.specs.declared.bound.BoundNames.{BoundNames}
-use Rattle.behaviour_lang.specs.declared.instr.Name.TheVariants.{Message}
+use Rattle.behaviour_lang.specs.declared.instr.Name.TheVariants.{Local, Message}
 
 -- the references whose flags are set, under the message names from the k-th on
 abbrev pub flagged : ℕ → List Actor → List Bool → Names
@@ -21,3 +21,14 @@ first_flag k (r ∷ refs) (false ∷ flags) = first_flag (k + 1) refs flags
 
 abbrev pub names_of : BoundNames → Names
 names_of n = flagged 0 n.refs n.flags ++ local_names n.locals
+
+-- the local name x was bound to the actor in the place of the k-th message name
+pub record IsKept (x : List ℕ) (k : ℕ) (a : Actor) (old new : BoundNames) : Type 0 where
+  pub refs : new.refs ≡ old.refs
+  pub flags : new.flags ≡ slice_set old.flags k false
+  pub locals : local_names new.locals ≡ bind x a (local_names old.locals)
+
+-- the k-th message name has its flag, and the local name x is not bound
+pub record WasFree (x : List ℕ) (k : ℕ) (names : BoundNames) : Type 0 where
+  pub flag : slice_index_or names.flags k false ≡ true
+  pub unbound : bound (Local x) (local_names names.locals) ≡ None

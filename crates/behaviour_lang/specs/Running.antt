@@ -1,10 +1,14 @@
 -- A turn that runs, as the code keeps it.
-use Rattle.std.specs.Prelude.{◌≡◌, ◌+◌, List, ◌∷◌, drop, None}
-use Rattle.behaviour_lang.specs.Held.{names_of}
+use Rattle.std.specs.Prelude.{ℕ, ◌≡◌, ◌+◌, List, ◌∷◌, drop, None}
+use Rattle.behaviour_lang.specs.Held.{IsKept, WasFree, names_of}
 use Rattle.behaviour_lang.specs.Steps.{Left, Next, next}
-use Rattle.behaviour_lang.specs.declared.act.Step.{Step}
+use Rattle.crgc_ids.specs.Actor.{Actor}
+use Rattle.behaviour_lang.specs.declared.act.Step.{Step as Steps}
 use Rattle.behaviour_lang.specs.declared.instr.Instr.{Instr}
+use Rattle.behaviour_lang.specs.declared.instr.Instr.TheVariants.{Keep}
 use Rattle.behaviour_lang.specs.declared.run.Run.{Run}
+use Rattle.behaviour_lang.specs.declared.run.Tried.{Tried}
+use Rattle.behaviour_lang.specs.declared.run.Tried.TheVariants.{Step, Passed, Moved}
 
 -- what is left, where these are all instructions of the turn
 abbrev pub left_in : List Instr → Run → Left
@@ -19,11 +23,11 @@ abbrev pub IsNext : List Instr → Instr → Run → Type 0
 IsNext instrs i r = drop r.position instrs ≡ i ∷ drop (r.position + 1) instrs
 
 -- the step is the next one, and the new state is what is left after it
-abbrev pub IsStep : List Instr → Run → Run → Step → Type 0
+abbrev pub IsStep : List Instr → Run → Run → Steps → Type 0
 IsStep instrs old new s = next_in instrs old ≡ record { step = s; after = left_in instrs new }
 
 -- the instruction makes the step
-abbrev pub MakesStep : Instr → Run → Run → Step → Type 0
+abbrev pub MakesStep : Instr → Run → Run → Steps → Type 0
 MakesStep i old new s = (instrs : List Instr) → IsNext instrs i old → IsStep instrs old new s
 
 -- the instruction makes no step, and is passed
@@ -31,3 +35,24 @@ pub record IsPassed (i : Instr) (old new : Run) : Type 0 where
   pub same_next : (instrs : List Instr) → IsNext instrs i old → next_in instrs old ≡ next_in instrs new
   pub position : new.position ≡ old.position + 1
   pub none_owed : new.owed ≡ None
+
+-- only the instruction was passed
+abbrev pub passed : Run → Run
+passed r = record r { position = r.position + 1 }
+
+-- the instruction is a `keep` that has moved a reference
+pub record IsMoved (x : List ℕ) (k : ℕ) (old new : Run) : Type 0 where
+  pub actor : Actor
+  pub free : WasFree x k old.names
+  pub kept : IsKept x k actor old.names new.names
+  pub others : record new { names = old.names } ≡ passed old
+
+abbrev pub IsMovedBy : Instr → Run → Run → Type 0
+IsMovedBy (Keep x k) old new = IsMoved x k old new
+IsMovedBy i old new = ⊥
+
+-- what was tried of the instruction
+abbrev pub Does : Instr → Tried → Run → Run → Type 0
+Does i (Step s) old new = MakesStep i old new s
+Does i Passed old new = IsPassed i old new × (new ≡ passed old)
+Does i Moved old new = IsPassed i old new × IsMovedBy i old new

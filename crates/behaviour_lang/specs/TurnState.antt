@@ -1,7 +1,7 @@
 -- What contracts see of a `Turn`, and what is left of it.
-use Rattle.std.specs.Prelude.{ℕ, ◌≡◌, Bool, true, false, List, [], drop, slice_get, Option, Some, None}
+use Rattle.std.specs.Prelude.{ℕ, Bool, true, false, List, [], drop, slice_get, Option, Some, None}
 use Rattle.behaviour_lang.specs.Bound.{Names}
-use Rattle.behaviour_lang.specs.Steps.{Left, after_step, next_step}
+use Rattle.behaviour_lang.specs.Steps.{Left}
 use Rattle.behaviour_lang.specs.declared.act.List.{List as Which}
 use Rattle.behaviour_lang.specs.declared.act.List.TheVariants.{Wake, Message}
 use Rattle.behaviour_lang.specs.declared.act.Step.{Step}
@@ -54,10 +54,3 @@ left_of behaviours t = record {
 abbrev pub is_end : Step → Bool
 is_end steps.End = true
 is_end s = false
-
--- what is left of a turn after it met want of memory does the same as before
-pub record GoesOnAs (behaviours : List Behaviour) (old new : TurnState) : Type 0 where
-  pub step : next_step (left_of behaviours new) ≡ next_step (left_of behaviours old)
-  pub after : after_step (left_of behaviours new) ≡ after_step (left_of behaviours old)
-  pub none_owed : new.owed ≡ None
-  pub running : new.ended ≡ false

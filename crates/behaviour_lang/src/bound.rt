@@ -1,8 +1,10 @@
 //! The names that are bound in a turn.
 ghost use Rattle.std.specs.Prelude.{◌≡◌, ◌^◌, ◌<◌, ◌≤◌, ◌↔◌, [], true, false, length, slice_index_or, slice_set, List, ◌∷◌, OnOk, OnErr, Option, None, IfOk, OnSome, IfNone, slice_get};
 ghost use Rattle.behaviour_lang.specs.Bound.{bind, bound, first_message, local_names, names_at_start, past_first_message, without};
-ghost use Rattle.behaviour_lang.specs.Held.{first_flag, names_of};
+ghost use Rattle.behaviour_lang.specs.Held.{IsKept, WasFree, first_flag, names_of};
 ghost use Rattle.behaviour_lang.specs.Turn.{bound_all};
+ghost use Rattle.behaviour_lang.specs.declared.bound.BoundNames.{BoundNames as Held};
+ghost use Rattle.crgc_ids.specs.Actor.{Actor};
 ghost use Rattle.behaviour_lang.specs.declared.instr.Name.TheVariants.{Local, Message};
 
 use crate::instr::{Name, NameList};
@@ -84,7 +86,7 @@ impl BoundNames {
     pub(crate) fn unbind_message(&mut self, k: usize)
         ensures { names_of self.new ≡ without (Message k) (names_of self.old) }
     {
-        clear_flag(&mut self.flags, k);
+        set_flag(&mut self.flags, k, false);
     }
 
     /// The local name, which was not bound, is bound to the actor; after `NoMemory` all is as before.
@@ -101,15 +103,24 @@ impl BoundNames {
     pub(crate) fn keep(&mut self, name: Octets, k: usize, actor: ActorId) -> Result<(), NoMemory>
         requires { bound (Local name) (names_of self.old) ≡ None }
         ensures ok { OnOk result (names_of self.new ≡ bind name actor (without (Message k) (names_of self.old))) }
+        ensures kept { OnOk result (IsKept name k actor self.old self.new) }
         ensures err { OnErr result (self.new ≡ self.old) }
     {
         match self.locals.bind(name, actor) {
             Ok(()) => {
-                clear_flag(&mut self.flags, k);
+                set_flag(&mut self.flags, k, false);
                 Ok(())
             }
             Err(fault) => Err(fault),
         }
+    }
+
+    /// What `keep` did is undone.
+    pub(crate) fn give_back(&mut self, name: &[u8], k: usize)
+        ensures { (before : Held) (a : Actor) → IsKept name.now k a before self.old → WasFree name.now k before → self.new ≡ before }
+    {
+        self.locals.unbind(name);
+        set_flag(&mut self.flags, k, true);
     }
 
     /// The actors to which the names are bound; None where one of them is not bound. Each name is found in logarithmic
@@ -155,12 +166,12 @@ fn first_flag(refs: &[ActorId], flags: &[bool]) -> Option<usize>
     None
 }
 
-/// The flag is taken back, where there is one.
+/// The flag is set so, where there is one.
 #[tactic(auto, using(std::proofs::lemmas::List::set_past))]
-fn clear_flag(flags: &mut [bool], k: usize)
-    ensures { flags.new ≡ slice_set flags.old k false }
+fn set_flag(flags: &mut [bool], k: usize, flag: bool)
+    ensures { flags.new ≡ slice_set flags.old k flag }
 {
     if k < flags.len() {
-        flags[k] = false;
+        flags[k] = flag;
     }
 }

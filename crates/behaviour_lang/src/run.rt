@@ -1,7 +1,8 @@
 //! A turn that runs, one instruction after the other.
 ghost use Rattle.std.specs.Prelude.{◌≡◌, ◌+◌, ◌^◌, ◌<◌, [], drop, List, length, OnOk, OnErr, Option, None, IfOk, IfSome, IfNone};
-ghost use Rattle.behaviour_lang.specs.Running.{IsPassed, IsStep, MakesStep, left_in, next_in};
+ghost use Rattle.behaviour_lang.specs.Running.{Does, IsMovedBy, IsStep};
 ghost use Rattle.behaviour_lang.specs.declared.instr.Instr.{Instr as Instrs};
+ghost use Rattle.behaviour_lang.specs.declared.run.Run.{Run as Runs};
 ghost use Rattle.behaviour_lang.specs.declared.instr.Instr.TheVariants.{Drop as Drops, Keep as Keeps, Retire as Retires, Send as Sends, Spawn as Spawns};
 
 use crate::act::{Act, Step};
@@ -9,6 +10,14 @@ use crate::bound::BoundNames;
 use crate::instr::{Instr, Name, NameList};
 use crgc_ids::{NoMemory, Octets};
 use std::alloc::Global;
+
+/// What an instruction does: it makes a step, or it is passed; a `keep` that is passed may have moved a reference.
+#[derive(Debug, Drop)]
+pub(crate) enum Tried {
+    Step(Step),
+    Passed,
+    Moved,
+}
 
 /// The bound names, how many instructions are done, whether the actor is a root, and the name that waits for a child.
 #[derive(Debug, Drop)]
@@ -25,16 +34,39 @@ impl Run {
     pub(crate) fn next(&mut self, instrs: &[Instr]) -> Result<Step, NoMemory>
         requires { self.old.owed ≡ None }
         ensures ok { IfOk result (IsStep instrs.now self.old self.new) }
-        ensures err { OnErr result (next_in instrs.now self.new ≡ next_in instrs.now self.old) }
-        ensures none_owed { OnErr result (self.new.owed ≡ None) }
+        ensures err { OnErr result (self.new ≡ self.old) }
     {
         match instrs.get(self.position) {
             None => Ok(self.end()),
             Some(instr) => match self.run(instr) {
-                Ok(Some(step)) => Ok(step),
-                Ok(None) => self.next(instrs),
+                Ok(Tried::Step(step)) => Ok(step),
+                Ok(Tried::Passed) => match self.next(instrs) {
+                    Ok(step) => Ok(step),
+                    Err(fault) => {
+                        self.position -= 1;
+                        Err(fault)
+                    }
+                },
+                Ok(Tried::Moved) => match self.next(instrs) {
+                    Ok(step) => Ok(step),
+                    Err(fault) => {
+                        self.move_back(instr);
+                        Err(fault)
+                    }
+                },
                 Err(fault) => Err(fault),
             },
+        }
+    }
+
+    // The `keep` is undone that has moved a reference.
+    fn move_back(&mut self, instr: &Instr)
+        requires { 0 < self.old.position }
+        ensures { (before : Runs) → IsMovedBy instr.now before self.old → self.new ≡ before }
+    {
+        self.position -= 1;
+        if let Instr::Keep { name, message } = instr {
+            self.names.give_back(name.as_slice(), *message as usize);
         }
     }
 
@@ -49,12 +81,11 @@ impl Run {
         }
     }
 
-    // The instruction's next step; None where it makes none any more, and is passed.
-    fn run(&mut self, instr: &Instr) -> Result<Option<Step>, NoMemory>
+    // The instruction's next step; where it makes none any more, it is passed.
+    fn run(&mut self, instr: &Instr) -> Result<Tried, NoMemory>
         requires none_owed { self.old.owed ≡ None }
         requires room { self.old.position + 1 < 2 ^ 64 }
-        ensures some { IfOk result (λ tried. IfSome tried (MakesStep instr.now self.old self.new)) }
-        ensures none { IfOk result (λ tried. IfNone tried (IsPassed instr.now self.old self.new)) }
+        ensures ok { IfOk result (λ tried. Does instr.now tried self.old self.new) }
         ensures err { OnErr result (self.new ≡ self.old) }
     {
         match instr {
@@ -64,78 +95,78 @@ impl Run {
             Instr::Keep { name, message } => self.keep(name, *message as usize),
             Instr::Work { steps } => {
                 self.position += 1;
-                Ok(Some(Step::Work(*steps)))
+                Ok(Tried::Step(Step::Work(*steps)))
             }
             Instr::Retire => Ok(self.retire()),
         }
     }
 
-    fn spawn(&mut self, name: &Octets, behaviour: u32) -> Result<Option<Step>, NoMemory>
+    fn spawn(&mut self, name: &Octets, behaviour: u32) -> Result<Tried, NoMemory>
         requires none_owed { self.old.owed ≡ None }
         requires room { self.old.position + 1 < 2 ^ 64 }
-        ensures some { IfOk result (λ tried. IfSome tried (MakesStep (Spawns name.now behaviour) self.old self.new)) }
-        ensures none { IfOk result (λ tried. IfNone tried (IsPassed (Spawns name.now behaviour) self.old self.new)) }
+        ensures ok { IfOk result (λ tried. Does (Spawns name.now behaviour) tried self.old self.new) }
         ensures err { OnErr result (self.new ≡ self.old) }
     {
         match self.names.find_local(name.as_slice()) {
             Some(target) => {
                 self.names.unbind_local(name.as_slice());
-                Ok(Some(Step::Act(Act::Drop { target })))
+                Ok(Tried::Step(Step::Act(Act::Drop { target })))
             }
             None => match name.copy() {
                 Ok(name) => {
                     self.owed = Some(name);
                     self.position += 1;
-                    Ok(Some(Step::Act(Act::Spawn { behaviour })))
+                    Ok(Tried::Step(Step::Act(Act::Spawn { behaviour })))
                 }
                 Err(fault) => Err(fault),
             },
         }
     }
 
-    fn send(&mut self, to: &Name, refs: &NameList) -> Result<Option<Step>, NoMemory>
+    fn send(&mut self, to: &Name, refs: &NameList) -> Result<Tried, NoMemory>
         requires none_owed { self.old.owed ≡ None }
         requires room { self.old.position + 1 < 2 ^ 64 }
-        ensures some { IfOk result (λ tried. IfSome tried (MakesStep (Sends to.now refs.now) self.old self.new)) }
-        ensures none { IfOk result (λ tried. IfNone tried (IsPassed (Sends to.now refs.now) self.old self.new)) }
+        ensures ok { IfOk result (λ tried. Does (Sends to.now refs.now) tried self.old self.new) }
         ensures err { OnErr result (self.new ≡ self.old) }
     {
         match self.names.find_all(refs, self.alloc) {
             Ok(Some(refs)) => match self.names.find(to) {
                 Some(to) => {
                     self.position += 1;
-                    Ok(Some(Step::Act(Act::Send { to, refs })))
+                    Ok(Tried::Step(Step::Act(Act::Send { to, refs })))
                 }
                 None => {
                     self.position += 1;
-                    Ok(None)
+                    Ok(Tried::Passed)
                 }
             },
             Ok(None) => {
                 self.position += 1;
-                Ok(None)
+                Ok(Tried::Passed)
             }
             Err(fault) => Err(fault),
         }
     }
 
-    fn drop_name(&mut self, name: &Name) -> Option<Step>
+    fn drop_name(&mut self, name: &Name) -> Tried
         requires none_owed { self.old.owed ≡ None }
         requires room { self.old.position + 1 < 2 ^ 64 }
-        ensures some { IfSome result (MakesStep (Drops name.now) self.old self.new) }
-        ensures none { IfNone result (IsPassed (Drops name.now) self.old self.new) }
+        ensures { Does (Drops name.now) result self.old self.new }
     {
         self.position += 1;
-        let target = self.names.find(name)?;
-        self.names.unbind(name);
-        Some(Step::Act(Act::Drop { target }))
+        match self.names.find(name) {
+            Some(target) => {
+                self.names.unbind(name);
+                Tried::Step(Step::Act(Act::Drop { target }))
+            }
+            None => Tried::Passed,
+        }
     }
 
-    fn keep(&mut self, name: &Octets, k: usize) -> Result<Option<Step>, NoMemory>
+    fn keep(&mut self, name: &Octets, k: usize) -> Result<Tried, NoMemory>
         requires none_owed { self.old.owed ≡ None }
         requires room { self.old.position + 1 < 2 ^ 64 }
-        ensures some { IfOk result (λ tried. IfSome tried (MakesStep (Keeps name.now k) self.old self.new)) }
-        ensures none { IfOk result (λ tried. IfNone tried (IsPassed (Keeps name.now k) self.old self.new)) }
+        ensures ok { IfOk result (λ tried. Does (Keeps name.now k) tried self.old self.new) }
         ensures err { OnErr result (self.new ≡ self.old) }
     {
         match (
@@ -144,32 +175,31 @@ impl Run {
         ) {
             (None, _) => {
                 self.position += 1;
-                Ok(None)
+                Ok(Tried::Passed)
             }
             (Some(_), Some(target)) => {
                 self.names.unbind_local(name.as_slice());
-                Ok(Some(Step::Act(Act::Drop { target })))
+                Ok(Tried::Step(Step::Act(Act::Drop { target })))
             }
             (Some(actor), None) => {
                 self.names.keep(name.copy()?, k, actor)?;
                 self.position += 1;
-                Ok(None)
+                Ok(Tried::Moved)
             }
         }
     }
 
-    fn retire(&mut self) -> Option<Step>
+    fn retire(&mut self) -> Tried
         requires none_owed { self.old.owed ≡ None }
         requires room { self.old.position + 1 < 2 ^ 64 }
-        ensures some { IfSome result (MakesStep Retires self.old self.new) }
-        ensures none { IfNone result (IsPassed Retires self.old self.new) }
+        ensures { Does Retires result self.old self.new }
     {
         self.position += 1;
         if self.root {
             self.root = false;
-            Some(Step::Act(Act::Retire))
+            Tried::Step(Step::Act(Act::Retire))
         } else {
-            None
+            Tried::Passed
         }
     }
 }

@@ -1,9 +1,9 @@
 //! How names are spelled, and behaviours put together.
 use crate::{
-    Behaviour, BehaviourList, Instr, InstrList, Name, NameList, is_behaviour_name, is_local_name,
-    message_number,
+    Act, Behaviour, BehaviourList, Code, Instr, InstrList, List, Locals, Name, NameList, Step,
+    Turn, is_behaviour_name, is_local_name, message_number,
 };
-use crgc_ids::Octets;
+use crgc_ids::{ActorId, NodeId, Octets};
 use std::test::Fail;
 
 #[test]
@@ -61,5 +61,23 @@ fn behaviours_have_their_parts(rt: HostRuntime) -> Result<(), Fail> {
     })?;
     let found = behaviours.get(0).ok_or("the behaviour")?;
     assert_eq!(rt; (found.wake.len(), found.message.len()), (1, 0));
+    Ok(())
+}
+
+fn actor(node: u8, serial: u32) -> Option<ActorId> {
+    ActorId::new(NodeId::new(node)?, serial)
+}
+
+#[test]
+fn a_local_name_is_bound(rt: HostRuntime) -> Result<(), Fail> {
+    let own = actor(0, 0).ok_or("an actor")?;
+    let name = Octets::from_vec(Vec::from_slice(rt.alloc(), b"self")?);
+    let mut locals = Locals::new(rt.alloc());
+    locals.bind(name, own)?;
+    let same = locals.copy()?;
+    assert_eq!(rt; (same.len(), same.iter().count()), (1, 1));
+    let first = same.get(0).ok_or("the first name")?;
+    assert_eq!(rt; (first.0.as_slice(), first.1), (b"self".as_slice(), own));
+    assert!(rt; same.get(1).is_none());
     Ok(())
 }

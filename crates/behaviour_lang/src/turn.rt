@@ -2,7 +2,7 @@
 ghost use Rattle.std.specs.Prelude.{◌≡◌, ◌<◌, ◌≤◌, true, false, length, Some, None, OnOk, OnErr, IfOk, IsSome};
 ghost use Rattle.behaviour_lang.specs.Bound.{local_names, names_at_start};
 ghost use Rattle.behaviour_lang.specs.Steps.{after_step, next_step, with_child};
-ghost use Rattle.behaviour_lang.specs.TurnState.{at_start, GoesOnAs, instrs_of, is_end, left_of};
+ghost use Rattle.behaviour_lang.specs.TurnState.{at_start, instrs_of, is_end, left_of};
 
 use crate::act::{List, Step};
 use crate::bound::BoundNames;
@@ -80,7 +80,7 @@ impl Turn {
         ensures behaviour { self.new.behaviour ≡ self.old.behaviour }
         ensures list { self.new.list ≡ self.old.list }
         ensures ended { IfOk result (λ s. self.new.ended ≡ is_end s) }
-        ensures err { OnErr result (GoesOnAs code.now.behaviours self.old self.new) }
+        ensures err { OnErr result (self.new ≡ self.old) }
     {
         let instrs = instrs_of(code, self.behaviour, self.list);
         match self.run.next(instrs) {

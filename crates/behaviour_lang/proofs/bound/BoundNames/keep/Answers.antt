@@ -10,4 +10,4 @@ bind-requires c = let names = c.args.self.now in sym (bound-past c.args.name 0 n
 pub returns-in-Ok-clause-ok : goal.returns-in-Ok-clause-ok
 returns-in-Ok-clause-ok c =
     let names = c.args.self.now in
-    rw (c.clear_flag.ensures, c.in-Ok.ensures.ok, without-flagged c.args.k 0 c.args.k names.refs names.flags names.locals (omega arith)) (sym (bind-past c.args.name c.args.actor 0 names.refs _ (local_names names.locals)))
+    rw (c.set_flag.ensures, c.in-Ok.ensures.ok, without-flagged c.args.k 0 c.args.k names.refs names.flags names.locals (omega arith)) (sym (bind-past c.args.name c.args.actor 0 names.refs _ (local_names names.locals)))

@@ -5,4 +5,4 @@ use Rattle.behaviour_lang.proofs.bound.BoundNames.unbind_message.Goals as goal
 pub returns : goal.returns
 returns c =
     let names = c.args.self.now in
-    rw c.clear_flag.ensures (sym (without-flagged c.args.k 0 c.args.k names.refs names.flags names.locals (omega arith)))
+    rw c.set_flag.ensures (sym (without-flagged c.args.k 0 c.args.k names.refs names.flags names.locals (omega arith)))

@@ -23,5 +23,5 @@ invariant_of-self-in-Ok c =
 pub invariant_of-self-in-Err : goal.invariant_of-self-in-Err
 invariant_of-self-in-Err c = record {
   end = λ e. absurd (true≢false (sym e ∙ ap (λ (t : TurnState). t.ended) c.self.view_is ∙ c.requires.running));
-  owed = rw c.in-Err.ensures.none_owed tt;
+  owed = rw (c.in-Err.ensures.err, let e = ap (λ (t : TurnState). t.owed) c.self.view_is ∙ c.requires.none_owed in e) tt;
 }
