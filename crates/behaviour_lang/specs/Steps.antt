@@ -69,9 +69,13 @@ after_birth child l = left l.instrs (with_child l.owed child l.names) l.root
 abbrev pub whole : Left → List Actor → Outcome
 whole l children = turn l.instrs l.names l.root children
 
+-- no step is left
+abbrev pub no_steps : Names → Outcome
+no_steps names = record { steps = []; names = names }
+
 -- the step, and then the whole of what is left after it; a spawn takes the first child, and is the last step without one
 abbrev pub step_by_step : Step → Left → List Actor → Outcome
-step_by_step steps.End after children = record { steps = []; names = after.names }
+step_by_step steps.End after children = no_steps after.names
 step_by_step (steps.Act (acts.Spawn b)) after [] = record { steps = steps.Act (acts.Spawn b) ∷ []; names = after.names }
 step_by_step (steps.Act (acts.Spawn b)) after (child ∷ children) =
     let rest = whole (after_birth child after) children in
@@ -89,6 +93,10 @@ IsMade l (steps.Act (acts.Spawn b) ∷ done) [] now = ⊥
 IsMade l (steps.Act (acts.Spawn b) ∷ done) (child ∷ children) now =
     (next_step l ≡ steps.Act (acts.Spawn b)) × IsMade (after_birth child (after_step l)) done children now
 IsMade l (s ∷ done) children now = (next_step l ≡ s) × (¬ (s ≡ steps.End)) × IsMade (after_step l) done children now
+
+-- these steps are the beginning of the whole turn, and `now` has the rest of it
+abbrev pub IsBeginning : Left → List Step → List Actor → Left → Type 0
+IsBeginning l done children now = (more : List Actor) → whole l (children ++ more) ≡ before done (whole now more)
 
 -- The acts alone, without the work.
 

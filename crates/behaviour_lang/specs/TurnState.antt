@@ -1,6 +1,7 @@
 -- What contracts see of a `Turn`, and what is left of it.
-use Rattle.std.specs.Prelude.{ℕ, Bool, true, false, List, [], drop, slice_get, Option, Some, None}
-use Rattle.behaviour_lang.specs.Bound.{Names}
+use Rattle.std.specs.Prelude.{ℕ, ◌≡◌, Bool, true, false, List, [], drop, slice_get, Option, Some, None, IfSome}
+use Rattle.behaviour_lang.specs.Bound.{Names, bound, first_message}
+use Rattle.behaviour_lang.specs.Held.{names_of}
 use Rattle.behaviour_lang.specs.Steps.{Left}
 use Rattle.behaviour_lang.specs.declared.act.List.{List as Which}
 use Rattle.behaviour_lang.specs.declared.act.List.TheVariants.{Wake, Message}
@@ -8,6 +9,8 @@ use Rattle.behaviour_lang.specs.declared.act.Step.{Step}
 use Rattle.behaviour_lang.specs.declared.act.Step.TheVariants as steps
 use Rattle.behaviour_lang.specs.declared.code.Behaviour.{Behaviour}
 use Rattle.behaviour_lang.specs.declared.instr.Instr.{Instr}
+use Rattle.behaviour_lang.specs.declared.instr.Name.TheVariants.{Local}
+use Rattle.behaviour_lang.specs.declared.run.Run.{Run}
 
 -- the number of the behaviour and which of its lists is run, how many instructions are done, the bound names, whether
 -- the actor is a root, the local name of the child whose birth is owed, and whether the end was met
@@ -19,6 +22,23 @@ pub record TurnState : Type 0 where
   pub root : Bool
   pub owed : Option (List ℕ)
   pub ended : Bool
+
+-- what is seen of a turn that runs
+abbrev pub state_of : ℕ → Which → Run → Bool → TurnState
+state_of behaviour list run ended = record {
+  behaviour = behaviour;
+  list = list;
+  position = run.position;
+  names = names_of run.names;
+  root = run.root;
+  owed = run.owed;
+  ended = ended;
+}
+
+-- at the end no message name is bound, and the name of a child whose birth is owed is not bound
+pub record IsSound (run : Run) (ended : Bool) : Type 0 where
+  pub end : ended ≡ true → first_message (names_of run.names) ≡ None
+  pub owed : IfSome run.owed (λ x. bound (Local x) (names_of run.names) ≡ None)
 
 -- a turn of that behaviour that begins with these names
 abbrev pub at_start : ℕ → Which → Names → Bool → TurnState

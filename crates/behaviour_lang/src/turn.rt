@@ -25,17 +25,13 @@ pub struct Turn {
 }
 
 impl Model for Turn {
-    ghost use Rattle.std.specs.Prelude.{◌≡◌, true, None, IfSome};
-    ghost use Rattle.behaviour_lang.specs.Bound.{bound, first_message};
-    ghost use Rattle.behaviour_lang.specs.Held.{names_of};
-    ghost use Rattle.behaviour_lang.specs.TurnState.{TurnState};
-    ghost use Rattle.behaviour_lang.specs.declared.instr.Name.TheVariants.{Local};
+    ghost use Rattle.behaviour_lang.specs.TurnState.{IsSound, TurnState, state_of};
 
     ghost Value = { TurnState };
 
-    ghost view = { λ t. record { behaviour = t.behaviour; list = t.list; position = t.run.position; names = names_of t.run.names; root = t.run.root; owed = t.run.owed; ended = t.ended } };
+    ghost view = { λ t. state_of t.behaviour t.list t.run t.ended };
 
-    ghost invariant = { λ t. record { end : t.ended ≡ true → first_message (names_of t.run.names) ≡ None; owed : IfSome t.run.owed (λ x. bound (Local x) (names_of t.run.names) ≡ None) } };
+    ghost invariant = { λ t. IsSound t.run t.ended };
 }
 
 impl Turn {
