@@ -9,19 +9,22 @@ use Rattle.crgc_ids.proofs.RisingLaws.{IsRising-filter}
 use Rattle.history_model.specs.declared.events.Event.{Event}
 use Rattle.history_model.specs.Cluster.{Cluster}
 use Rattle.history_model.specs.Folds.{Fold, folded, is_lost}
-use Rattle.history_model.specs.Graph.{candidates, dead, has_edge, is_pseudoroot, is_unreached, known_actors, named_by, notice_facts}
+use Rattle.history_model.specs.Graph.{candidates, dead, dead_without, has_edge, is_pseudoroot, is_unreached, known_actors, named_by, notice_facts}
 use Rattle.history_model.proofs.RisingActors.{rising_actors-rise}
 use Rattle.history_model.specs.Sweeps.{dead_at, is_stopped, stop_of, stopped_by}
 
 pub known-rise : (cl : Cluster) (f : Fold) → IsRising IsActorBelow (known_actors cl f)
 known-rise cl f = rising_actors-rise (flat_map named_by (flat_map (λ o. notice_facts (f o)) (nodes_below cl.nodes)))
 
+pub dead_without-rise : (cl : Cluster) (lost : ℕ → Bool) (out : Actor → Bool) (f : Fold) → IsRising IsActorBelow (dead_without cl lost out f)
+dead_without-rise cl lost out f =
+    let test = greatest-filters (is_unreached cl lost out f) (candidates cl lost out f) in
+    let fit = IsRising-filter IsActorBelow (λ a. not (out a) && not (is_pseudoroot cl lost f a)) (known_actors cl f) (known-rise cl f) in
+    subst (IsRising IsActorBelow) (sym test.1) (IsRising-filter IsActorBelow test.0 (candidates cl lost out f) fit)
+
 pub dead-rise : (cl : Cluster) (lost : ℕ → Bool) (f : Fold) → IsRising IsActorBelow (dead cl lost f)
 unfolding dead
-dead-rise cl lost f =
-    let test = greatest-filters (is_unreached cl lost f) (candidates cl lost f) in
-    let fit = IsRising-filter IsActorBelow (λ a. not (lost a.node) && not (is_pseudoroot cl lost f a)) (known_actors cl f) (known-rise cl f) in
-    subst (IsRising IsActorBelow) (sym test.1) (IsRising-filter IsActorBelow test.0 (candidates cl lost f) fit)
+dead-rise cl lost f = dead_without-rise cl lost (λ b. lost b.node) f
 
 pub stopped-rise : (cl : Cluster) (m : ℕ) (h : List Event) → IsRising IsActorBelow (stopped_by cl m h)
 stopped-rise cl m h =

@@ -26,7 +26,7 @@ use Rattle.history_model.proofs.FoldSumsDead.{dead-member, dead-closed}
 use Rattle.history_model.proofs.FoldSumsStreams.{own-flags}
 use Rattle.history_model.proofs.LinksMail.{admitted-mail, carried-mail}
 use Rattle.history_model.proofs.LinksSums.{tally-sum_by}
-use Rattle.history_model.proofs.SoundnessTold.{is_creation, is_receipt, is_release, is_sending, counts_lost}
+use Rattle.history_model.proofs.SoundnessTold.{IsToldSet, is_creation, is_receipt, is_release, is_sending, counts_lost}
 use Rattle.history_model.proofs.SoundnessQuiet.{told-quiet}
 use Rattle.history_model.proofs.States.{IsAtRest}
 
@@ -57,7 +57,7 @@ dead-at_horizon cl h c lost legal a member q p same long =
     subst (IsAtRest a) (sym tail) flush.4
 
 -- a dead actor is on a node of the cluster
-dead-on_node : (cl : Cluster) (h : List Event) (c : ℕ → ℕ) (lost : ℕ → Bool) → IsLegal cl h → (a : Actor) → IsAmong a (dead cl lost (fold_to cl c h)) → a.node < cl.nodes
+pub dead-on_node : (cl : Cluster) (h : List Event) (c : ℕ → ℕ) (lost : ℕ → Bool) → IsLegal cl h → (a : Actor) → IsAmong a (dead cl lost (fold_to cl c h)) → a.node < cl.nodes
 dead-on_node cl h c lost legal a member =
     let flush = dead-flush cl h c lost legal a member in
     let later = born-grows a (flush.0 ++ (Flush a ∷ [])) flush.1 flush.4.0 in
@@ -83,13 +83,17 @@ dead-holders cl h c lost legal settled b a member node kept =
       | inr none ↦ inr (omega (arith, none, created-told cl h c lost b a legal, carried, released-told cl h c b a legal))
     ]
 
+-- so the dead are a set as the core of soundness needs it
+pub dead-told_set : (cl : Cluster) (h : List Event) (c : ℕ → ℕ) (lost : ℕ → Bool) → IsLegal cl h → AreSettled cl c lost h → IsToldSet cl h lost (told_horizon cl c h) (dead cl lost (fold_to cl c h))
+dead-told_set cl h c lost legal settled = record {
+  placed = λ a member. (dead-member cl lost (fold_to cl c h) a member).not_lost;
+  at_horizon = dead-at_horizon cl h c lost legal;
+  within = λ b. flush_horizon-within b (publish_horizon cl b.node (c b.node) h) h;
+  balanced = dead-balanced cl h c lost legal settled;
+  holders = dead-holders cl h c lost legal settled;
+}
+
 -- the dead are a quiet set: nobody outside can use any of them, and none of them acts of itself
 pub soundness : (cl : Cluster) (h : List Event) (c : ℕ → ℕ) (lost : ℕ → Bool) → IsLegal cl h → AreSettled cl c lost h → IsQuietSet cl h (dead cl lost (fold_to cl c h))
 soundness cl h c lost legal settled =
-    told-quiet cl c lost (told_horizon cl c h) (dead cl lost (fold_to cl c h)) h legal settled (record {
-      placed = λ a member. (dead-member cl lost (fold_to cl c h) a member).not_lost;
-      at_horizon = dead-at_horizon cl h c lost legal;
-      within = λ b. flush_horizon-within b (publish_horizon cl b.node (c b.node) h) h;
-      balanced = dead-balanced cl h c lost legal settled;
-      holders = dead-holders cl h c lost legal settled;
-    })
+    told-quiet cl c lost (told_horizon cl c h) (dead cl lost (fold_to cl c h)) h legal settled (dead-told_set cl h c lost legal settled)

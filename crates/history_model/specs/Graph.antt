@@ -113,16 +113,20 @@ is_pseudoroot cl lost f a = may_act (own_flags f a) || not (is_balanced cl lost 
 abbrev pub holds_actor : List Actor → Actor → Bool
 holds_actor xs a = list_any (λ x. same_actor x a) xs
 
--- a may stay among the dead xs: no known actor outside them and outside the lost nodes has a positive edge to it
-abbrev pub is_unreached : Cluster → (ℕ → Bool) → Fold → List Actor → Actor → Bool
-is_unreached cl lost f xs a =
-    list_all (λ b. holds_actor xs b || (lost b.node || not (has_edge cl lost f b a))) (known_actors cl f)
+-- a may stay among the dead xs: no known actor outside them that is not left out has a positive edge to it
+abbrev pub is_unreached : Cluster → (ℕ → Bool) → (Actor → Bool) → Fold → List Actor → Actor → Bool
+is_unreached cl lost out f xs a =
+    list_all (λ b. holds_actor xs b || (out b || not (has_edge cl lost f b a))) (known_actors cl f)
 
--- the known actors outside the lost nodes that are no pseudoroots
-abbrev pub candidates : Cluster → (ℕ → Bool) → Fold → List Actor
-candidates cl lost f =
-    filter (λ a. not (lost a.node) && not (is_pseudoroot cl lost f a)) (known_actors cl f)
+-- the known actors that are neither left out nor pseudoroots
+abbrev pub candidates : Cluster → (ℕ → Bool) → (Actor → Bool) → Fold → List Actor
+candidates cl lost out f = filter (λ a. not (out a) && not (is_pseudoroot cl lost f a)) (known_actors cl f)
 
--- the dead: the greatest set of known actors, no pseudoroots, to which no actor outside the set has a positive edge
+-- the dead of a sweep that leaves actors out: the greatest set of known actors, none of them left out or a pseudoroot, to
+-- which no actor outside the set that is not left out has a positive edge
+abbrev pub dead_without : Cluster → (ℕ → Bool) → (Actor → Bool) → Fold → List Actor
+dead_without cl lost out f = greatest (is_unreached cl lost out f) (candidates cl lost out f)
+
+-- the dead: a sweep leaves out the actors of lost nodes
 unfoldable pub dead : Cluster → (ℕ → Bool) → Fold → List Actor
-dead cl lost f = greatest (is_unreached cl lost f) (candidates cl lost f)
+dead cl lost f = dead_without cl lost (λ a. lost a.node) f

@@ -10,7 +10,9 @@ pub mod Graph
 pub mod Sweeps
 pub mod Legal
 pub mod Quiescent
+pub mod Uses
 pub mod Settled
 pub mod Reached
+pub mod Compaction
 pub mod Story
 pub mod Rows

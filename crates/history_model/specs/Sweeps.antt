@@ -10,9 +10,13 @@ use Rattle.history_model.specs.declared.records.Verdict.{Verdict}
 use Rattle.history_model.specs.Folds.{Fold, cut_at, lost_of, folded, is_lost}
 use Rattle.history_model.specs.Graph.{received_count, told_count, admitted_count, has_edge, known_actors, dead, holds_actor}
 
+-- the dead of a fold, where the nodes are lost that it shows as lost
+abbrev pub dead_of : Cluster → Fold → List Actor
+dead_of cl f = dead cl (is_lost cl f) f
+
 -- the dead of what is folded at m
 abbrev pub dead_at : Cluster → ℕ → List Event → List Actor
-dead_at cl m h = dead cl (is_lost cl (folded cl m h)) (folded cl m h)
+dead_at cl m h = dead_of cl (folded cl m h)
 
 -- the sweep finds a: it is one of m's actors, and dead in what is folded at m
 abbrev pub is_swept : Cluster → ℕ → List Event → Actor → Bool

@@ -95,7 +95,7 @@ module _ (v : ℕ) (f : Fold) (fs : List PlainFact) (deltas : AreDeltas (f 0)) (
       let admitted : tally (is_sent_to a) (link_facts none_lost (f 0) ++ []) ≡ 0 = ap (tally (is_sent_to a)) links in
       rw (received, sent, admitted) refl
 
-  unreached : is_unreached (one_node v) none_lost f ≡ is_plain_unreached (facts_of fs)
+  unreached : is_unreached (one_node v) none_lost (λ a. none_lost a.node) f ≡ is_plain_unreached (facts_of fs)
   unreached = λ i xs a. list_all (λ b. holds_actor xs b || not (edge b a i)) (known i)
 
   -- the evidence of a stop

@@ -1,0 +1,14 @@
+use Rattle.history_model.proofs.CompactedSweeps.{fewer-gone, gone-stays, more-gone, nobody-gone}
+use Rattle.history_model.proofs.compaction.the_stopped_may_be_gone.Goals as goal
+
+pub returns-clause-first : goal.returns-clause-first
+returns-clause-first c = nobody-gone
+
+pub returns-clause-take : goal.returns-clause-take
+returns-clause-take c = gone-stays
+
+pub returns-clause-sweep : goal.returns-clause-sweep
+returns-clause-sweep c = more-gone
+
+pub returns-clause-compact : goal.returns-clause-compact
+returns-clause-compact c = fewer-gone
