@@ -41,3 +41,13 @@ pub mod CompletenessMail
 pub mod Completeness
 pub mod Stopped
 pub mod Supervision
+pub mod TellsSums
+pub mod TellsRows
+pub mod TellsCounts
+pub mod TellsNames
+pub mod TellsBulletins
+pub mod TellsWindows
+pub mod OneMoreSums
+pub mod TellsFacts
+pub mod OneMoreBulletin
+pub mod OneMoreLost

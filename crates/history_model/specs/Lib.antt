@@ -14,3 +14,6 @@ pub mod Settled
 pub mod Reached
 pub mod Story
 pub mod Rows
+pub mod Ledgers
+pub mod Tells
+pub mod MoreFolded
