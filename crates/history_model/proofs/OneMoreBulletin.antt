@@ -29,7 +29,8 @@ use Rattle.history_model.proofs.FoldSumsKnown.{known-named, names-among}
 use Rattle.history_model.proofs.LinksSettled.{final_links-from, final_links-member}
 use Rattle.history_model.proofs.Lists.{IsAmong-flat_map, IsAmong-from_flat_map, tally-append}
 use Rattle.history_model.proofs.TellsBulletins.{ledger-named, no_entries-tell, tells-counts}
-use Rattle.history_model.proofs.OneMoreSums.{sum_by-one_node, tally-flat_map}
+use Rattle.history_model.proofs.LinksSums.{nodes-point, tally-flat_map}
+use Rattle.history_model.proofs.LinksWindows.{link_facts-append}
 
 -- ---- the bulletins of one node with one more
 
@@ -47,22 +48,17 @@ delta_facts-push (delta facts ∷ xs) n = ap (λ ys. facts ++ ys) (delta_facts-p
 delta_facts-push (window_of s facts ∷ xs) n = delta_facts-push xs n
 delta_facts-push (final_of s facts ∷ xs) n = delta_facts-push xs n
 
--- put before joined facts, or not
-put_before : (v : Bool) (facts all first second : List Fact) → all ≡ first ++ second → cond v (facts ++ all) all ≡ cond v (facts ++ first) first ++ second
-put_before true facts all first second e = ap (λ ys. facts ++ ys) e ∙ sym (append_assoc facts first second)
-put_before false facts all first second e = e
-
 put_alone : (v : Bool) (facts : List Fact) → cond v (facts ++ []) [] ≡ cond v facts []
 put_alone true facts = append-nil facts
 put_alone false facts = refl
 
+link_facts-one : (lost : ℕ → Bool) (n : Notice) → link_facts lost (n ∷ []) ≡ link_part lost n
+link_facts-one lost (delta facts) = refl
+link_facts-one lost (window_of s facts) = put_alone (lost s) facts
+link_facts-one lost (final_of s facts) = put_alone (lost s) facts
+
 link_facts-push : (lost : ℕ → Bool) (xs : List Notice) (n : Notice) → link_facts lost (xs ++ n ∷ []) ≡ link_facts lost xs ++ link_part lost n
-link_facts-push lost [] (delta facts) = refl
-link_facts-push lost [] (window_of s facts) = put_alone (lost s) facts
-link_facts-push lost [] (final_of s facts) = put_alone (lost s) facts
-link_facts-push lost (delta facts ∷ xs) n = link_facts-push lost xs n
-link_facts-push lost (window_of s facts ∷ xs) n = put_before (lost s) facts _ _ _ (link_facts-push lost xs n)
-link_facts-push lost (final_of s facts ∷ xs) n = put_before (lost s) facts _ _ _ (link_facts-push lost xs n)
+link_facts-push lost xs n = link_facts-append lost xs (n ∷ []) ∙ ap (λ facts. link_facts lost xs ++ facts) (link_facts-one lost n)
 
 notice_facts-push : (xs : List Notice) (n : Notice) → notice_facts (xs ++ n ∷ []) ≡ notice_facts xs ++ facts_in n
 notice_facts-push [] (delta facts) = append-nil facts
@@ -90,7 +86,7 @@ module _ (cl : Cluster) (o : ℕ) (n : Notice) (f : Fold) (inside : o < cl.nodes
       let others : (k : ℕ) → k ≢ o → tally test (pieces k (with_notice o n f k)) ≡ tally test (pieces k (f k)) =
       λ k other. ap (λ ns. tally test (pieces k ns)) (with_notice-else o k n f other) in
       tally-flat_map test (λ k. pieces k (with_notice o n f k)) (nodes_below cl.nodes)
-      ∙ sum_by-one_node (λ k. tally test (pieces k (f k))) (λ k. tally test (pieces k (with_notice o n f k))) o (tally test more) cl.nodes inside here others
+      ∙ nodes-point (λ k. tally test (pieces k (with_notice o n f k))) (λ k. tally test (pieces k (f k))) o (tally test more) cl.nodes inside others here
       ∙ ap (λ x. x + tally test more) (sym (tally-flat_map test (λ k. pieces k (f k)) (nodes_below cl.nodes)))
 
   told-more : (test : Fact → Bool) → tally test (all_told cl (with_notice o n f)) ≡ tally test (all_told cl f) + tally test (own_part n)
