@@ -17,7 +17,7 @@ use Rattle.event_lines.specs.Pieces.{pieces}
 use Rattle.event_lines.specs.Shapes.{link_number, message, one_actor, one_node, two_actors, two_nodes}
 use Rattle.event_lines.proofs.FieldsLaws.{actor_word-free, decimal-free, option_map-some}
 use Rattle.event_lines.proofs.PiecesLaws.{IsFreeOf, join-pieces, pieces-join}
-use Rattle.event_lines.proofs.ShapesLaws.{link_number-some, link_number-words, message-some, message-words, one_actor-some, one_actor-words, one_node-some, one_node-words, two_actors-some, two_actors-words, two_nodes-some, two_nodes-words}
+use Rattle.event_lines.proofs.ShapesLaws.{link_number-some, link_number-words, message-some, message-words, one_actor-some, one_actor-words, one_node-some, one_node-words, two_actors-some, two_actors-words, two_nodes-some, two_nodes-words, cons-first}
 
 -- the words spell the event, and its numbers are in range
 abbrev IsReadFrom : List ℕ → List (List ℕ) → Event → Type 0
@@ -186,10 +186,7 @@ line_event-some line e r =
     let words = pieces 32 line in
     option_and_then_some _ _ e r (λ w first made.
     let from = event-some w (drop 1 words) e made in
-    (from.0, ap spell (from.1 ∙ cons-words words w first) ∙ join-pieces 32 line)) where
-      cons-words : (ws : List (List ℕ)) (w : List ℕ) → slice_get ws 0 ≡ Some w → w ∷ drop 1 ws ≡ ws
-      cons-words [] w e' = absurd (none-some w e')
-      cons-words (v ∷ ws) w e' = ap (λ x. x ∷ ws) (sym (same_Some v w e'))
+    (from.0, ap spell (from.1 ∙ sym (cons-first words w (sym first))) ∙ join-pieces 32 line))
 
 -- no two events are spelled alike
 pub spell-injective : (e f : Event) → IsWithinRanges e → IsWithinRanges f → event_line e ≡ event_line f → e ≡ f

@@ -136,7 +136,8 @@ message-some ws m e = option_and_then_some _ _ m e (λ a ea e'. option_and_then_
       first.1 ∙ ap (λ l. actor_word a ∷ l) (second.1 ∙ ap (λ l. actor_word b ∷ l) (read.spelled ∙ ap (map actor_word) (sym all))),
     )))
 
-cons-first : (ws : List (List ℕ)) (w : List ℕ) → Some w ≡ slice_get ws 0 → ws ≡ w ∷ drop 1 ws
+-- words whose first one is there
+pub cons-first : (ws : List (List ℕ)) (w : List ℕ) → Some w ≡ slice_get ws 0 → ws ≡ w ∷ drop 1 ws
 cons-first [] w e = absurd (none-some w (sym e))
 cons-first (v ∷ ws) w e = ap (λ x. x ∷ ws) (same_Some v w (sym e))
 
