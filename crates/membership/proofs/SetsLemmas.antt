@@ -1,6 +1,6 @@
 -- Sets of nodes that are made or tested one node after another.
 use Rattle.std.proofs.Common.{◌≡◌, ◌<◌, ◌+◌, ◌&&◌, ℕ, zero, suc, Bool, true, false, cond, List, [], ◌∷◌, ◌++◌, refl, sym, ◌∙◌, ap, subst, inl, inr, arith, add-one, zero-add}
-use Rattle.std.proofs.lemmas.Bool.{and_parts, cases_lt, false≢true, le-ltb, ne_eqb}
+use Rattle.std.proofs.lemmas.Bool.{and_parts, cases_lt, false≢true, le-ltb, ne_eqb, false_from_ne_true}
 use Rattle.std.proofs.lemmas.List.{append-nil}
 use Rattle.std.specs.List.{AllByRecursion, filter, list_all, range_with_len}
 use Rattle.crgc_ids.proofs.MembersLaws.{IsAmong-filter, IsAmong-from_filter, IsAmong-from_range, IsAmong-range, all-member, list_all-members, list_all-true, all-from_members}
@@ -64,12 +64,8 @@ all_more p n all passes =
 -- one node below n that does not pass
 pub all_fails : (p : ℕ → Bool) (n k : ℕ) → k < n → p k ≡ false → list_all p (nodes_below n) ≡ false
 all_fails p n k below fails =
-    let Told : Bool → Type 0 = λ b. list_all p (nodes_below n) ≡ b → b ≡ false in
-    let told : Told (list_all p (nodes_below n)) = elim (list_all p (nodes_below n)) as Told [
-      | true ↦ λ e. absurd (false≢true (sym fails ∙ list_all-true p k (nodes_below n) e (IsAmong-range k 0 n (omega arith) (omega arith))))
-      | false ↦ λ _. refl
-    ] in
-    told refl
+    false_from_ne_true (list_all p (nodes_below n)) (λ all.
+    false≢true (sym fails ∙ list_all-true p k (nodes_below n) all (IsAmong-range k 0 n (omega arith) (omega arith))))
 
 -- to try all nodes below n for being members that pass is to try the members
 pub filter-members : (n : ℕ) (p : ℕ → Bool) (xs : List ℕ) → IsRising ◌<◌ xs → AllByRecursion (λ x. x < n) xs → filter (λ s. has_node xs s && p s) (nodes_below n) ≡ filter p xs
@@ -87,9 +83,4 @@ filter-members n p xs rising below =
 -- a test of members that fails says that the node is none
 pub has_node-apart : (xs : List ℕ) (k : ℕ) {r : Bool} → (IsAmong k xs → r ≡ true) → r ≡ false → has_node xs k ≡ false
 has_node-apart xs k tells fails =
-    let Told : Bool → Type 0 = λ b. has_node xs k ≡ b → b ≡ false in
-    let told : Told (has_node xs k) = elim (has_node xs k) as Told [
-      | true ↦ λ e. absurd (false≢true (sym fails ∙ tells (has_node-from_true xs k e)))
-      | false ↦ λ _. refl
-    ] in
-    told refl
+    false_from_ne_true (has_node xs k) (λ member. false≢true (sym fails ∙ tells (has_node-from_true xs k member)))
