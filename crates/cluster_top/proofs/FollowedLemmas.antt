@@ -21,7 +21,7 @@ text_of-longer : (lines : List (List ℕ)) → length lines ≤ length (text_of 
 text_of-longer [] = omega arith
 text_of-longer (l ∷ ls) =
     let rest = text_of-longer ls in
-    omega (arith, length-append (l ++ 10 ∷ []) (text_of ls), length-append l (10 ∷ []))
+    omega (arith, length-append (line_of l) (text_of ls), length-append l (10 ∷ []))
 
 -- a verdict has a line for each stop
 pub stops_fit : (m : ℕ) (cut lost : List ℕ) (stops : List Stop) (old new : List ℕ) → new ≡ old ++ text_of (spell (cut_words m cut lost) ∷ map (λ s. spell (stop_words m s)) stops) → length old + length stops ≤ length new
@@ -65,7 +65,7 @@ story-is s t cluster past =
 
 -- the text of lines after a header
 text-told : (header : List ℕ) (told more : List (List ℕ)) → text_of (header ∷ (told ++ more)) ≡ text_of (header ∷ told) ++ text_of more
-text-told header told more = flat_map-append (λ l. l ++ 10 ∷ []) (header ∷ told) more
+text-told header told more = flat_map-append line_of (header ∷ told) more
 
 -- the next event, where it is no sweep
 pub followed-other : (s s' : Story) (text text' : List ℕ) (n : ℕ) (e : Event) → IsFollowed s text n → IsNext s.cluster s.past e → s'.cluster ≡ s.cluster → s'.past ≡ e ∷ s.past → sweep_of e ≡ None → text' ≡ text ++ line_of (event_line e) → IsFollowed s' text' n
@@ -75,10 +75,10 @@ followed-other s s' text text' n e before next cluster past none is =
     let before_it = told_lines s.cluster s.past in
     let told : text' ≡ text_of (header ∷ told_lines s.cluster (e ∷ s.past)) =
     is ∙ ap (λ (x : List ℕ). x ++ line_of (event_line e)) before.report
-    ∙ ap (λ (x : List ℕ). text_of (header ∷ before_it) ++ x) (sym (append-nil line_of (event_line e)))
+    ∙ ap (λ (x : List ℕ). text_of (header ∷ before_it) ++ x) (sym (append-nil (line_of (event_line e))))
     ∙ sym (text-told header before_it (event_line e ∷ []))
     ∙ sym (ap (λ (ls : List (List ℕ)). text_of (header ∷ ls)) (told-other s.cluster s.past e none)) in
-    let fits : n ≤ length text' = omega (arith, before.room, ap length is, length-append text line_of (event_line e)) in
+    let fits : n ≤ length text' = omega (arith, before.room, ap length is, length-append text (line_of (event_line e))) in
     let kept : IsFollowed t text' n = record {
       playable = playable-next s.cluster s.past e before.playable next;
       report = told;
@@ -97,14 +97,14 @@ followed-sweep s s' text line_told text' n stops n' m e before next cluster past
     let equal : e ≡ Sweep m = sweep-is e m sweeps in
     let told : text' ≡ text_of (header ∷ told_lines s.cluster (e ∷ s.past)) =
     is ∙ ap (λ (x : List ℕ). x ++ text_of verdict) (line ∙ ap (λ (x : List ℕ). x ++ line_of (event_line e)) before.report)
-    ∙ append_assoc (text_of (header ∷ before_it)) line_of (event_line e) (text_of verdict)
+    ∙ append_assoc (text_of (header ∷ before_it)) (line_of (event_line e)) (text_of verdict)
     ∙ sym (text-told header before_it (event_line e ∷ verdict))
     ∙ ap (λ (x : Event). text_of (header ∷ (before_it ++ event_line x ∷ verdict))) equal
     ∙ sym (ap (λ (x : Event). text_of (header ∷ told_lines s.cluster (x ∷ s.past))) equal) in
     let stopped : n' ≡ stopped_total s.cluster (e ∷ s.past) =
     total ∙ ap (λ (x : ℕ). x + stops) before.stopped ∙ ap (λ (x : ℕ). stopped_total s.cluster s.past + x) count
     ∙ sym (ap (λ (x : Event). stopped_total s.cluster (x ∷ s.past)) equal) in
-    let grown : length text ≤ length line_told = omega (arith, ap length line, length-append text line_of (event_line e)) in
+    let grown : length text ≤ length line_told = omega (arith, ap length line, length-append text (line_of (event_line e))) in
     let more : length line_told + length (stops_of s.cluster m s.past) ≤ length text' =
     stops_fit m (map (cut_at s.cluster m s.past) (nodes_below s.cluster.nodes)) (lost_of s.cluster (folded s.cluster m s.past)) (stops_of s.cluster m s.past) line_told text' is in
     let all : length (stops_of s.cluster m s.past) ≡ stops = length-map (stopped_by s.cluster m s.past) _ ∙ sym count in

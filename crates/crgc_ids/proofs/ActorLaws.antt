@@ -1,6 +1,6 @@
 -- The order of actors and of pairs of actors, and its tests.
-use Rattle.std.proofs.Common.{◌≡◌, ◌⊎◌, ◌==◌, ◌&&◌, ltb, sym, ◌∙◌, ap, subst, inl, inr, arith}
-use Rattle.std.proofs.lemmas.Bool.{cases_lt}
+use Rattle.std.proofs.Common.{◌≡◌, ◌⊎◌, ◌==◌, ◌&&◌, false, ltb, sym, ◌∙◌, ap, subst, inl, inr, arith}
+use Rattle.std.proofs.lemmas.Bool.{cases_lt, false_from_ne_true}
 use Rattle.std.proofs.lemmas.Bool.Decides.{Decides-and, Decides-eqb, Decides-like, Decides-ltb, Decides-or}
 use Rattle.std.specs.Bool.{Decides}
 use Rattle.crgc_ids.specs.Actor.{Actor, IsActorBelow, IsPairBelow, is_actor_below, same_actor}
@@ -51,6 +51,10 @@ same_actor-decides a b =
     (λ h. same_parts a b h.0 h.1)
     (λ e. (ap (λ c. c.node) e, ap (λ c. c.serial) e))
     (Decides-and (a.node == b.node) (a.serial == b.serial) (Decides-eqb a.node b.node) (Decides-eqb a.serial b.serial))
+
+-- actors that differ do not test the same
+pub same_actor-apart : (a b : Actor) → (a ≡ b → ⊥) → same_actor a b ≡ false
+same_actor-apart a b differ = false_from_ne_true (same_actor a b) (λ t. differ ((same_actor-decides a b).0 t))
 
 pub is_actor_below-decides : (a b : Actor) → Decides (is_actor_below a b) (IsActorBelow a b)
 is_actor_below-decides a b =

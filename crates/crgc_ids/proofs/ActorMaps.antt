@@ -1,9 +1,9 @@
 -- What a map that is ordered by its actors has for an actor, by the test of sameness.
-use Rattle.std.proofs.Common.{◌≡◌, ◌≢◌, Bool, true, false, cond, List, [], ◌∷◌, Some, refl, sym, ◌∙◌, ap, arith}
+use Rattle.std.proofs.Common.{◌≡◌, ◌≢◌, Bool, false, cond, List, [], ◌∷◌, Some, refl, sym, ◌∙◌, ap, arith}
 use Rattle.std.proofs.lemmas.Bool.Decides.{nat_tests}
 use Rattle.std.specs.Map.{lookup}
 use Rattle.std.specs.Ordering.{is_eq}
-use Rattle.crgc_ids.proofs.ActorLaws.{same_actor-decides}
+use Rattle.crgc_ids.proofs.ActorLaws.{same_actor-apart}
 use Rattle.crgc_ids.specs.Actor.{Actor, same_actor}
 use Rattle.crgc_ids.specs.contracts.ids.ActorIdOrd.TheImpl as order
 
@@ -16,13 +16,7 @@ pub tie-same : (a b : Actor) → tie a b ≡ same_actor a b
 tie-same a b = grind (arith, nat_tests)
 
 pub tie-apart : (a b : Actor) → b ≢ a → tie a b ≡ false
-tie-apart a b differ =
-    let Told : Bool → Type 0 = λ t. same_actor a b ≡ t → t ≡ false in
-    let told : Told (same_actor a b) = elim (same_actor a b) as Told [
-      | true ↦ λ e. absurd (differ (sym ((same_actor-decides a b).0 e)))
-      | false ↦ λ _. refl
-    ] in
-    tie-same a b ∙ told refl
+tie-apart a b differ = tie-same a b ∙ same_actor-apart a b (λ e. differ (sym e))
 
 -- so the map has for an actor what its entry of that actor says
 pub lookup-tie : {V : Type 0} (a : Actor) (entries : List (Actor × V)) → lookup (tie a) entries ≡ lookup (same_actor a) entries

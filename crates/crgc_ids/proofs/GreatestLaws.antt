@@ -7,7 +7,7 @@ use Rattle.crgc_ids.proofs.MembersLaws.{IsAmong-append_cases, IsAmong-append_lef
 
 module _ {A : Type 0} (fit : List A → A → Bool) where
   -- where all are fit, nothing is taken away
-  prune-fixed : (n : ℕ) (xs : List A) → filter (fit xs) xs ≡ xs → prune fit n xs ≡ xs
+  pub prune-fixed : (n : ℕ) (xs : List A) → filter (fit xs) xs ≡ xs → prune fit n xs ≡ xs
   prune-fixed zero xs e = refl
   prune-fixed (suc n) xs e = ap (prune fit n) e ∙ prune-fixed n xs e
 

@@ -1,8 +1,10 @@
 pub mod ActorLaws
+pub mod ActorMaps
+pub mod ActorOrder
 pub mod GreatestLaws
 mod LostNodesExamples
 pub mod LostNodesLaws
 pub mod MembersLaws
 pub mod NodesLaws
 pub mod RisingLaws
-pub mod ActorMaps
+pub mod SuccessLaws

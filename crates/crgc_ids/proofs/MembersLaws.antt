@@ -21,6 +21,11 @@ module _ {A : Type 0} where
   IsAmong-append_cases x (z ∷ xs) ys (inr h) =
       elim (IsAmong-append_cases x xs ys h) [ inl k ↦ inl (inr k) | inr k ↦ inr k ]
 
+  -- where two joined lists are empty, the first is
+  pub append-empty : (xs ys : List A) → xs ++ ys ≡ [] → xs ≡ []
+  append-empty [] ys e = refl
+  append-empty (x ∷ xs) ys e = absurd (cc)
+
   -- a member that passes the test stays
   pub IsAmong-filter : (p : A → Bool) (x : A) (xs : List A) → IsAmong x xs → p x ≡ true → IsAmong x (filter p xs)
   IsAmong-filter p x [] h t = absurd h
@@ -97,6 +102,16 @@ module _ {A : Type 0} where
   list_all-members p [] h = refl
   list_all-members p (y ∷ ys) h =
       ap (λ b. b && list_all p ys) (h y (inl refl)) ∙ list_all-members p ys (λ x k. h x (inr k))
+
+  -- what follows from what is so of each item is so of each
+  pub all-implied : (P Q : A → Type 0) → ((x : A) → P x → Q x) → (xs : List A) → AllByRecursion P xs → AllByRecursion Q xs
+  all-implied P Q implies [] all = tt
+  all-implied P Q implies (x ∷ xs) all = (implies x all.0, all-implied P Q implies xs all.1)
+
+  -- what is so of each member is so of all
+  pub all-from_members : (P : A → Type 0) (xs : List A) → ((x : A) → IsAmong x xs → P x) → AllByRecursion P xs
+  all-from_members P [] h = tt
+  all-from_members P (x ∷ xs) h = (h x (inl refl), all-from_members P xs (λ y m. h y (inr m)))
 
   -- what is so of all members is so of each
   pub all-member : (P : A → Type 0) (x : A) (xs : List A) → AllByRecursion P xs → IsAmong x xs → P x

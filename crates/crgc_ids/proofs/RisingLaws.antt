@@ -4,7 +4,7 @@ use Rattle.std.proofs.ByRecursion.{All-push}
 use Rattle.std.specs.List.{AllByRecursion, filter, range_with_len}
 use Rattle.crgc_ids.specs.Members.{IsPart}
 use Rattle.crgc_ids.specs.Rising.{IsRising}
-use Rattle.crgc_ids.proofs.MembersLaws.{all-member}
+use Rattle.crgc_ids.proofs.MembersLaws.{IsAmong-from_filter, all-from_members, all-member}
 
 module _ {X : Type 0} (below : X → X → Type 0) where
   -- a row above all the rows of a rising list may be put last
@@ -23,10 +23,7 @@ module _ {X : Type 0} (below : X → X → Type 0) where
       last_of P (x ∷ xs) y h = last_of P xs y h.1
 
   all_filter : (P : X → Type 0) (p : X → Bool) (xs : List X) → AllByRecursion P xs → AllByRecursion P (filter p xs)
-  all_filter P p [] h = tt
-  all_filter P p (x ∷ xs) h =
-      let rest = all_filter P p xs h.1 in
-      elim (p x) as (λ b. AllByRecursion P (cond b (x ∷ filter p xs) (filter p xs))) [ true ↦ (h.0, rest) | false ↦ rest ]
+  all_filter P p xs all = all-from_members P (filter p xs) (λ x m. all-member P x xs all (IsAmong-from_filter p x xs m).0)
 
   -- a rising list that is filtered rises
   pub IsRising-filter : (p : X → Bool) (xs : List X) → IsRising below xs → IsRising below (filter p xs)

@@ -5,6 +5,10 @@ pub record Actor : Type 0 where
   pub node : ℕ
   pub serial : ℕ
 
+-- a node's number is below 16, a serial below 262,144
+abbrev pub IsActor : Actor → Type 0
+IsActor a = (a.node < 16) × (a.serial < 262144)
+
 -- actors are ordered by node, then by serial
 abbrev pub IsActorBelow : Actor → Actor → Type 0
 IsActorBelow a b = (a.node < b.node) ⊎ ((a.node ≡ b.node) × (a.serial < b.serial))

@@ -1,4 +1,5 @@
 pub mod Actor
+pub mod Counted
 pub mod Greatest
 pub mod LostNodes
 pub mod Members

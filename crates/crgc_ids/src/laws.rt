@@ -1,10 +1,26 @@
 //! Laws of the definitions. Each function does nothing, and its contract is the law.
 ghost use Rattle.std.specs.Prelude.{◌≡◌, ◌<◌, ◌↔◌, ◌++◌, ℕ, Bool, true, List};
 ghost use Rattle.std.specs.List.{filter};
+ghost use Rattle.std.specs.Ordering.{MatchOrdering};
+ghost use Rattle.crgc_ids.specs.Actor.{Actor, IsActorBelow};
+ghost use Rattle.crgc_ids.specs.Counted.{IsCountBelow, IsPairCountBelow};
 ghost use Rattle.crgc_ids.specs.Greatest.{AreFit, IsMonotone, greatest};
 ghost use Rattle.crgc_ids.specs.LostNodes.{IsLostSet, lost_nodes, removed_nodes};
 ghost use Rattle.crgc_ids.specs.Members.{IsAmong, IsPart};
 ghost use Rattle.crgc_ids.specs.Rising.{IsRising};
+ghost use Rattle.crgc_ids.specs.declared.rising.ActorCount.{ActorCount as CountRow};
+ghost use Rattle.crgc_ids.specs.declared.rising.PairCount.{PairCount as PairRow};
+
+use crate::ids::ActorId;
+use crate::rising::{ActorCount, PairCount};
+
+/// What `cmp` answers: actors are ordered by node, then by serial; rows that count actors by actor, then by count; rows
+/// that count pairs by owner, then by target, then by count.
+pub fn orders_go_by_names()
+    ensures actors { (a b : Actor) → MatchOrdering (⟦<ActorId as Ord>⟧.cmp a b) (IsActorBelow a b) (a ≡ b) (IsActorBelow b a) }
+    ensures counts { (r s : CountRow) → MatchOrdering (⟦<ActorCount as Ord>⟧.cmp r s) (IsCountBelow r s) (r ≡ s) (IsCountBelow s r) }
+    ensures pairs { (r s : PairRow) → MatchOrdering (⟦<PairCount as Ord>⟧.cmp r s) (IsPairCountBelow r s) (r ≡ s) (IsPairCountBelow s r) }
+{}
 
 /// `greatest` keeps some members of the list in their order, and those are all fit for what it keeps. Where a greater
 /// list lets more members be fit, it keeps every part of the list whose members are fit for that part.
@@ -45,7 +61,7 @@ pub fn lost_sets_are_closed_under_union()
 {}
 
 /// As links are added, no node leaves the removed ones, and none the lost ones.
-pub fn lost_nodes_only_grow()
+pub fn lost_nodes_grow_with_links()
     ensures removed { (n : ℕ) (links more : List (ℕ × ℕ)) → IsPart links more → IsPart (removed_nodes n links) (removed_nodes n more) }
     ensures lost { (n : ℕ) (links more : List (ℕ × ℕ)) → IsPart links more → IsPart (lost_nodes n links) (lost_nodes n more) }
 {}

@@ -19,11 +19,11 @@ use Rattle.history_model.proofs.Lists.{Each, each-none, each-more, each-one, amo
 -- ---- members of lists
 
 module _ {A : Type 0} where
-  among-then : (b : Bool) (x : A) (xs : List A) → IsAmong x (cond b xs []) → IsAmong x xs
+  pub among-then : (b : Bool) (x : A) (xs : List A) → IsAmong x (cond b xs []) → IsAmong x xs
   among-then true x xs among = among
   among-then false x xs among = absurd among
 
-  among-else : (b : Bool) (x : A) (xs : List A) → IsAmong x (cond b [] xs) → IsAmong x xs
+  pub among-else : (b : Bool) (x : A) (xs : List A) → IsAmong x (cond b [] xs) → IsAmong x xs
   among-else true x xs among = absurd among
   among-else false x xs among = among
 
@@ -181,26 +181,31 @@ sent-among s d (_ ∷ p) m among = sent-among s d p m among
 pub message_at-among : (s d k : ℕ) (h : List Event) (m : Message) → IsAmong m (message_at s d k h) → IsAmong m (sent s d h)
 message_at-among s d k h m among = among-place k m (sent s d h) among
 
+-- what was sent stays so
+sent-later : (e : Event) (p : List Event) (m : Message) → IsAmong m (all_sent p) → IsAmong m (all_sent (e ∷ p))
+sent-later (Send f t refs) p m among = IsAmong-append_left m (all_sent p) (record { from = f; to = t; refs = refs } ∷ []) among
+sent-later _ p m among = among
+
+-- what an event admits was sent, at the latest by it
+admitted-among : (e : Event) (p : List Event) (m : Message) → IsAmong m (admitted_by e p) → IsAmong m (all_sent (e ∷ p))
+admitted-among (Send f t refs) p m among =
+    let one : Message = record { from = f; to = t; refs = refs } in
+    IsAmong-append_right m (all_sent p) (one ∷ []) (among-then (f.node == t.node) m (one ∷ []) among)
+admitted-among (Admit s d k) p m among =
+    let place = among-else (was_admitted s d k p) m (message_at s d k p) among in
+    (sent-among s d p m (message_at-among s d k p m place)).0
+admitted-among _ p m among = absurd among
+
 -- what was admitted to an actor was sent to it
 pub mail-among : (b : Actor) (h : List Event) (m : Message) → IsAmong m (mail b h) → IsAmong m (all_sent h) × (m.to ≡ b)
 mail-among b [] m among = absurd among
-mail-among b (Send f t refs ∷ p) m among =
-    let one : Message = record { from = f; to = t; refs = refs } in
-    elim (IsAmong-append_cases m (mail b p) (filter (is_to b) (admitted_by (Send f t refs) p)) among) [
-      | inl earlier ↦ (let found = mail-among b p m earlier in (IsAmong-append_left m (all_sent p) (one ∷ []) found.0, found.1))
-      | inr here ↦
-          let found = IsAmong-from_filter (is_to b) m (admitted_by (Send f t refs) p) here in
-          (IsAmong-append_right m (all_sent p) (one ∷ []) (among-then (f.node == t.node) m (one ∷ []) found.0), same_actor-equal m.to b found.1)
+mail-among b (e ∷ p) m among =
+    elim (IsAmong-append_cases m (mail b p) (filter (is_to b) (admitted_by e p)) among) [
+      | inl earlier ↦ (let found = mail-among b p m earlier in (sent-later e p m found.0, found.1))
+      | inr here ↦ (
+          let found = IsAmong-from_filter (is_to b) m (admitted_by e p) here in
+          (admitted-among e p m found.0, same_actor-equal m.to b found.1))
     ]
-mail-among b (Admit s d k ∷ p) m among =
-    elim (IsAmong-append_cases m (mail b p) (filter (is_to b) (admitted_by (Admit s d k) p)) among) [
-      | inl earlier ↦ mail-among b p m earlier
-      | inr here ↦
-          let found = IsAmong-from_filter (is_to b) m (admitted_by (Admit s d k) p) here in
-          let place = among-else (was_admitted s d k p) m (message_at s d k p) found.0 in
-          ((sent-among s d p m (message_at-among s d k p m place)).0, same_actor-equal m.to b found.1)
-    ]
-mail-among b (_ ∷ p) m among = mail-among b p m among
 
 -- what waits was admitted
 pub waiting-among : (b : Actor) (h : List Event) (m : Message) → IsAmong m (waiting b h) → IsAmong m (mail b h)

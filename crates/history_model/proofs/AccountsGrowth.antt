@@ -7,7 +7,7 @@ use Rattle.std.specs.List.{list_any}
 use Rattle.std.specs.Prelude.{◌==◌}
 use Rattle.crgc_ids.specs.Actor.{Actor}
 use Rattle.history_model.specs.declared.events.Event.{Event}
-use Rattle.history_model.specs.declared.events.Event.TheVariants.{Seed, Tie, Spawn, Send, Admit}
+use Rattle.history_model.specs.declared.events.Event.TheVariants.{Send}
 use Rattle.history_model.specs.Cluster.{Cluster}
 use Rattle.history_model.specs.Messages.{Message, sent, mail, is_to, admitted_by, is_take_by, takes, taken}
 use Rattle.history_model.specs.Held.{gifts, carried, got}
@@ -40,11 +40,7 @@ module _ {A : Type 0} where
 -- mail goes on
 pub mail-begins : (b : Actor) (q p : List Event) → Begins (mail b p) (mail b (q ++ p))
 mail-begins b [] p = begins-same (mail b p)
-mail-begins b (Send f t refs ∷ q) p =
-    begins-more (mail b p) (mail b (q ++ p)) (filter (is_to b) (admitted_by (Send f t refs) (q ++ p))) (mail-begins b q p)
-mail-begins b (Admit s d k ∷ q) p =
-    begins-more (mail b p) (mail b (q ++ p)) (filter (is_to b) (admitted_by (Admit s d k) (q ++ p))) (mail-begins b q p)
-mail-begins b (_ ∷ q) p = mail-begins b q p
+mail-begins b (e ∷ q) p = begins-more (mail b p) (mail b (q ++ p)) (filter (is_to b) (admitted_by e (q ++ p))) (mail-begins b q p)
 
 -- what was sent on a link goes on
 pub sent-begins : (s d : ℕ) (q p : List Event) → Begins (sent s d p) (sent s d (q ++ p))
@@ -63,10 +59,7 @@ takes-grow a q p = omega (arith, tally-append (is_take_by a) q p)
 
 pub gifts-grow : (cl : Cluster) (b a : Actor) (q p : List Event) → gifts cl b a p ≤ gifts cl b a (q ++ p)
 gifts-grow cl b a [] p = omega arith
-gifts-grow cl b a (Seed n ∷ q) p = omega (arith, gifts-grow cl b a q p)
-gifts-grow cl b a (Tie o t ∷ q) p = omega (arith, gifts-grow cl b a q p)
-gifts-grow cl b a (Spawn x ∷ q) p = omega (arith, gifts-grow cl b a q p)
-gifts-grow cl b a (_ ∷ q) p = gifts-grow cl b a q p
+gifts-grow cl b a (e ∷ q) p = omega (arith, gifts-grow cl b a q p)
 
 -- joined lists carry what both carry
 pub carried-append : (a : Actor) (xs ys : List Message) → carried a (xs ++ ys) ≡ carried a xs + carried a ys

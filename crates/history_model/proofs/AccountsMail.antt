@@ -64,7 +64,7 @@ mail-and_open cl (Admit s d k ∷ p) legal b w =
     let kept = legal-kept cl (Admit s d k) p legal in
     let now = admitted_by (Admit s d k) p in
     omega (arith, mail-and_open cl p legal.1 b w, mail-append b w p now, admission b w s d k p (not-true (s == d) kept.1.1.0))
-mail-and_open cl (_ ∷ p) legal b w = mail-and_open cl p legal.1 b w
+mail-and_open cl (_ ∷ p) legal b w = omega (arith, mail-and_open cl p legal.1 b w, mail-append b w p [])
 
 -- what was admitted to b weighs at most what was sent to it
 pub mail-sent : (cl : Cluster) (h : List Event) → IsLegal cl h → (b : Actor) (w : Message → ℕ) → sum_by w (mail b h) ≤ sum_by w (filter (is_to b) (all_sent h))

@@ -29,7 +29,7 @@ takes-mail cl (Take b ∷ p) legal a =
       | true ↦ λ same. (let now = subst (λ c. takes c p < length (mail c p)) (same_actor-equal b a same) left in omega arith)
       | false ↦ λ _. before
     ] in
-    split refl
+    omega (arith, split refl, length-begins (mail a p) (mail a (Take b ∷ p)) (mail-begins a (Take b ∷ []) p))
 takes-mail cl (e ∷ p) legal a =
     omega (arith, takes-mail cl p legal.1 a, length-begins (mail a p) (mail a (e ∷ p)) (mail-begins a (e ∷ []) p))
 
@@ -49,5 +49,5 @@ gave-got cl (Drop x t ∷ p) legal b a =
           omega arith
       | false ↦ λ _. before
     ] in
-    split refl
+    omega (arith, split refl, got-grows cl b a (Drop x t ∷ []) p)
 gave-got cl (e ∷ p) legal b a = omega (arith, gave-got cl p legal.1 b a, got-grows cl b a (e ∷ []) p)

@@ -11,14 +11,14 @@ use Rattle.history_model.specs.declared.events.Event.TheVariants.{Flush, Publish
 use Rattle.history_model.specs.Cluster.{Cluster, same_actor, is_born}
 use Rattle.history_model.specs.Facts.{Fact, flagged, Flags, Note, notes}
 use Rattle.history_model.specs.State.{is_busy, is_root, is_up}
-use Rattle.history_model.specs.Streams.{delta, window_of, final_of, facts_by, log, flags_at, flushed_flags, are_flags, is_blank, entry, queue, window, stream}
+use Rattle.history_model.specs.Streams.{delta, window_of, final_of, facts_by, is_flush_of, log, flags_at, flushed_flags, are_flags, is_blank, entry, queue, window, stream}
 use Rattle.history_model.specs.Folds.{cut_at}
 use Rattle.history_model.specs.Legal.{IsLegal}
 use Rattle.history_model.specs.Quiescent.{IsQuietPoint}
 use Rattle.history_model.proofs.Basics.{legal-before, same_actor-refl}
 use Rattle.history_model.proofs.Sums.{noted_sum, told_sum, publish_horizon, horizon_flags, told_horizon}
 use Rattle.history_model.proofs.AccountsBirths.{born-grows, born-on_node, notes-born}
-use Rattle.history_model.proofs.FoldSumsHorizons.{flush_horizon-last, is_flush_of, last_flush, last_flush-here, last_flush-other}
+use Rattle.history_model.proofs.FoldSumsHorizons.{flush_horizon-last, last_flush, last_flush-here, last_flush-other}
 use Rattle.history_model.proofs.FoldSumsLogs.{log-flushed, log-next}
 use Rattle.history_model.proofs.FoldSumsNotes.{told-next}
 

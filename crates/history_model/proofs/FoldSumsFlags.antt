@@ -9,11 +9,11 @@ use Rattle.history_model.specs.declared.events.Event.{Event}
 use Rattle.history_model.specs.declared.events.Event.TheVariants.{Flush}
 use Rattle.history_model.specs.Cluster.{Cluster, same_actor}
 use Rattle.history_model.specs.Facts.{Flags, Fact, flagged, is_flagged, Note, notes}
-use Rattle.history_model.specs.Streams.{entry, facts_by, flags_at, log}
+use Rattle.history_model.specs.Streams.{entry, facts_by, flags_at, is_flush_of, log}
 use Rattle.history_model.specs.Graph.{last_flags}
 use Rattle.history_model.proofs.Basics.{same_actor-equal}
 use Rattle.history_model.proofs.FoldSumsNotes.{notes-kinds}
-use Rattle.history_model.proofs.FoldSumsHorizons.{is_flush_of, last_flush, last_flush-here, last_flush-skip, some_flags}
+use Rattle.history_model.proofs.FoldSumsHorizons.{last_flush, last_flush-here, last_flush-skip, some_flags}
 use Rattle.history_model.proofs.FoldSumsLogs.{log-next, log-flushed}
 
 -- the newer flags, where there are any

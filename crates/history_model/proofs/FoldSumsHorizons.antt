@@ -8,15 +8,11 @@ use Rattle.history_model.specs.declared.events.Event.{Event}
 use Rattle.history_model.specs.declared.events.Event.TheVariants.{Flush, Publish}
 use Rattle.history_model.specs.Cluster.{Cluster, same_actor}
 use Rattle.history_model.specs.Facts.{Flags}
-use Rattle.history_model.specs.Streams.{flags_at, stream}
+use Rattle.history_model.specs.Streams.{is_flush_of, flags_at, stream}
 use Rattle.history_model.proofs.Basics.{same_actor-equal}
 use Rattle.history_model.proofs.Sums.{publish_horizon, flush_horizon, horizon_flags}
 
 -- ---- the last flush before a position
-
-abbrev pub is_flush_of : Actor → Event → Bool
-is_flush_of a (Flush b) = same_actor b a
-is_flush_of a _ = false
 
 abbrev pub is_flush_on : ℕ → Event → Bool
 is_flush_on o (Flush b) = b.node == o

@@ -2,37 +2,29 @@
 -- this where a flush moves a log into an entry.
 use Rattle.std.proofs.Common.{◌≡◌, ◌<◌, ◌≤◌, ◌+◌, ◌&&◌, ℕ, suc, Bool, true, false, cond, List, [], ◌∷◌, ◌++◌, length, refl, sym, ◌∙◌, ap, subst, inl, inr, arith}
 use Rattle.std.proofs.lemmas.Bool.{false≢true, le-ltb, lt-ltb, cases_Bool}
-use Rattle.std.proofs.lemmas.List.{append-nil}
 use Rattle.std.specs.Prelude.{◌==◌, nat_lt}
 use Rattle.crgc_ids.specs.Actor.{Actor}
 use Rattle.history_model.specs.declared.events.Event.{Event}
-use Rattle.history_model.specs.declared.events.Event.TheVariants.{Seed, Tie, Take, Spawn, Send, Drop, Flush}
+use Rattle.history_model.specs.declared.events.Event.TheVariants.{Flush}
 use Rattle.history_model.specs.Tally.{tally}
 use Rattle.history_model.specs.Cluster.{Cluster, same_actor}
 use Rattle.history_model.specs.Facts.{Fact, Note, notes}
-use Rattle.history_model.specs.Streams.{facts_by, log}
+use Rattle.history_model.specs.Streams.{facts_by, is_flush_of, log}
 use Rattle.history_model.proofs.Basics.{same_actor-equal}
 use Rattle.history_model.proofs.Sums.{told_sum}
 use Rattle.history_model.proofs.FoldSumsNotes.{told-same}
-use Rattle.history_model.proofs.FoldSumsHorizons.{is_flush_of, last_flush, last_flush-end, last_flush-here, last_flush-other, last_flush-within}
+use Rattle.history_model.proofs.FoldSumsHorizons.{last_flush, last_flush-end, last_flush-here, last_flush-other, last_flush-within}
 use Rattle.history_model.proofs.Lists.{tally-append}
 
 -- ---- events and logs
 
 -- an event that is no flush of a adds its notes to a's log
 pub log-next : (cl : Cluster) (a : Actor) (e : Event) (p : List Event) → is_flush_of a e ≡ false → log cl a (e ∷ p) ≡ log cl a p ++ facts_by a (notes cl e p)
-log-next cl a (Seed n) p f = refl
-log-next cl a (Tie o t) p f = refl
-log-next cl a (Take b) p f = refl
-log-next cl a (Spawn b) p f = refl
-log-next cl a (Send x t refs) p f = refl
-log-next cl a (Drop b t) p f = refl
-log-next cl a (Flush b) p f = ap (λ v. cond v [] (log cl a p)) f ∙ sym (append-nil (log cl a p))
-log-next cl a e p f = sym (append-nil (log cl a p))
+log-next cl a e p f = ap (λ v. cond v [] (log cl a p ++ facts_by a (notes cl e p))) f
 
 -- a flush of a blanks it, and notes nothing
 pub log-flushed : (cl : Cluster) (a : Actor) (e : Event) (p : List Event) → is_flush_of a e ≡ true → (log cl a (e ∷ p) ≡ []) × (notes cl e p ≡ [])
-log-flushed cl a (Flush b) p f = (ap (λ v. cond v [] (log cl a p)) f, refl)
+log-flushed cl a (Flush b) p f = (ap (λ v. cond v [] (log cl a p ++ [])) f, refl)
 log-flushed cl a e p f = absurd (false≢true f)
 
 -- ---- sums of told notes and logs

@@ -27,6 +27,7 @@ pub mod LinksMail
 pub mod LinksStreams
 pub mod LinksLost
 pub mod States
+pub mod UsesActors
 pub mod SoundnessSums
 pub mod SoundnessTold
 pub mod SoundnessBounds
@@ -36,6 +37,7 @@ pub mod Soundness
 pub mod StabilityHeld
 pub mod StabilityMessages
 pub mod Stability
+pub mod Uses
 pub mod CompletenessTold
 pub mod CompletenessMail
 pub mod Completeness

@@ -1,6 +1,6 @@
 -- Where the lost nodes are settled, what a fold admits from them is the mail that they sent: this is what balances and
 -- edges count in the place of what lost nodes told.
-use Rattle.std.proofs.Common.{◌≡◌, ◌≢◌, ◌≤◌, ◌<◌, ◌+◌, ◌&&◌, ◌==◌, ℕ, zero, suc, Bool, true, false, cond, if◌then◌else◌, List, [], ◌∷◌, ◌++◌, map, take, drop, slice_get, option_to_list, sum_by, refl, sym, ◌∙◌, ap, ap₂, subst, inl, inr, arith, ltb-true, ne_eqb, take-append-drop}
+use Rattle.std.proofs.Common.{◌≡◌, ◌≢◌, ◌≤◌, ◌<◌, ◌+◌, ◌&&◌, ◌==◌, ℕ, zero, suc, Bool, true, false, cond, if◌then◌else◌, List, [], ◌∷◌, ◌++◌, map, take, drop, slice_get, option_to_list, sum_by, refl, sym, ◌∙◌, ap, ap₂, subst, inl, inr, arith, ltb-true, ne_eqb, take-append-drop, append-nil}
 use Rattle.std.proofs.lemmas.Bool.{eqb-true}
 use Rattle.std.proofs.lemmas.List.Sums.{sum_by-append}
 use Rattle.std.specs.List.{filter}
@@ -78,19 +78,12 @@ admitted_on-between (_ ∷ p) s d m j = admitted_on-between p s d m j
 -- the mail of a is to a
 pub mail-to : (a : Actor) (h : List Event) (m : Message) → IsAmong m (mail a h) → is_to a m ≡ true
 mail-to a [] m j = absurd j
-mail-to a (Send f t refs ∷ p) m j =
-    let more = admitted_by (Send f t refs) p in
+mail-to a (e ∷ p) m j =
+    let more = admitted_by e p in
     elim (IsAmong-append_cases m (mail a p) (filter (is_to a) more) j) [
       | inl before ↦ mail-to a p m before
       | inr now ↦ (IsAmong-from_filter (is_to a) m more now).1
     ]
-mail-to a (Admit s d k ∷ p) m j =
-    let more = admitted_by (Admit s d k) p in
-    elim (IsAmong-append_cases m (mail a p) (filter (is_to a) more) j) [
-      | inl before ↦ mail-to a p m before
-      | inr now ↦ (IsAmong-from_filter (is_to a) m more now).1
-    ]
-mail-to a (_ ∷ p) m j = mail-to a p m j
 
 -- ---- the mail from lost nodes, node by node
 
@@ -178,7 +171,7 @@ module _ (lost : ℕ → Bool) (b : Actor) (w : Message → ℕ) (none : (m : Me
       let adds = nodes-point (λ s. grown s (x == s)) (from_lost lost w b.node p) x (sum_by (if_lost lost w) more) cl.nodes inside
       (λ s differ. ap (grown s) (ne_eqb x s (λ e. differ (sym e)))) (admit_adds x y k p) in
       both ∙ ap₂ ◌+◌ before filtered ∙ sym adds
-  mail-by_node cl (_ ∷ p) legal out = mail-by_node cl p legal.1 out
+  mail-by_node cl (_ ∷ p) legal out = ap (sum_by (if_lost lost w)) (append-nil (mail b p)) ∙ mail-by_node cl p legal.1 out
 
 -- ---- the facts of links from lost nodes, node by node
 

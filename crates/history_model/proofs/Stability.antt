@@ -1,28 +1,31 @@
 -- A quiet set stays quiet: in every longer legal history nobody outside it can use its members, and none of them acts.
 -- So whom a sweep stopped is quiescent ever after (`Stopped`).
-use Rattle.std.proofs.Common.{List, [], ◌∷◌, ◌++◌, refl, sym, ◌∙◌, subst, inl, inr, arith}
-use Rattle.std.proofs.lemmas.Bool.{false≢true}
+use Rattle.std.proofs.Common.{◌≡◌, List, [], ◌∷◌, ◌++◌, refl, sym, subst, inl, inr, arith}
 use Rattle.crgc_ids.specs.Actor.{Actor}
 use Rattle.crgc_ids.specs.Members.{IsAmong}
 use Rattle.history_model.specs.declared.events.Event.{Event}
-use Rattle.history_model.specs.declared.events.Event.TheVariants.{Send}
+use Rattle.history_model.specs.declared.events.Event.TheVariants.{Send, Flush}
 use Rattle.history_model.specs.Cluster.{Cluster}
 use Rattle.history_model.specs.Messages.{Message}
 use Rattle.history_model.specs.Legal.{IsLegal}
 use Rattle.history_model.specs.Quiescent.{IsLive, IsQuietSet, IsQuiescent}
+use Rattle.history_model.specs.Uses.{sent_by}
 use Rattle.history_model.proofs.AccountsGrowth.{up-before}
 use Rattle.history_model.proofs.StabilityHeld.{held-next}
-use Rattle.history_model.proofs.StabilityMessages.{IsSent, live-next}
-use Rattle.history_model.proofs.States.{legal-send, IsAtRest, stays-at_rest, waiting-live}
+use Rattle.history_model.proofs.StabilityMessages.{live-next}
+use Rattle.history_model.proofs.States.{IsAtRest, stays-at_rest, waiting-live}
+use Rattle.history_model.proofs.UsesActors.{only-flush}
 
--- a sender is busy and holds all that it names, so it names no member
-sent-outside : (cl : Cluster) (e : Event) (p : List Event) (q : List Actor) → IsLegal cl (e ∷ p) → IsQuietSet cl p q → (m : Message) → IsSent e m
+-- nobody sends to a member or sends a reference to one
+pub sent-outside : (cl : Cluster) (e : Event) (p : List Event) (q : List Actor) → IsLegal cl (e ∷ p) → IsQuietSet cl p q → (m : Message) → IsAmong m (sent_by e)
     → (a : Actor) → IsAmong a (m.to ∷ m.refs) → ¬ IsAmong a q
-sent-outside cl (Send f t refs) p q legal quiet m new a named member =
-    let rules = legal-send cl f t refs p legal in
-    let holds = rules.holds a (subst (λ (x : Message). IsAmong a (x.to ∷ x.refs)) new named) in
-    let sender = quiet.holders f a member rules.up holds in
-    false≢true (sym (quiet.idle f sender) ∙ rules.busy)
+sent-outside cl (Send f t refs) p q legal quiet m (inl new) a named member =
+    let there : IsAmong a (t ∷ refs) = subst (λ (x : Message). IsAmong a (x.to ∷ x.refs)) new named in
+    not_flush (only-flush cl p q quiet (Send f t refs) legal a (inr there) member)
+  where
+    not_flush : Send f t refs ≡ Flush a → ⊥
+    not_flush e = cc
+sent-outside cl (Send f t refs) p q legal quiet m (inr none) a named member = absurd none
 sent-outside cl _ p q legal quiet m new a named member = absurd new
 
 -- what is live after the next event neither goes to nor carries a member
@@ -53,8 +56,8 @@ stability-step cl e p q legal quiet = record {
   no_mail = λ m live member. live-outside cl e p q legal quiet m live m.to (inl refl) member;
   not_carried = λ m live a member carried. live-outside cl e p q legal quiet m live a (inr carried) member;
   holders = λ b a member up some.
-      let fewer = held-next cl e p q legal quiet b a member in
-      quiet.holders b a member (up-before b.node (e ∷ []) p up) (omega (arith, some, fewer));
+      let same = held-next cl e p q legal quiet b a member in
+      quiet.holders b a member (up-before b.node (e ∷ []) p up) (omega (arith, some, same));
 }
 
 -- and after every legal continuation

@@ -1,6 +1,6 @@
 -- What is live after the next event of a legal history was live before, or is the message that the event sends. So
 -- `Stability` need look at senders alone.
-use Rattle.std.proofs.Common.{◌≡◌, ◌≢◌, ◌<◌, ◌≤◌, ◌+◌, ◌-◌, ◌&&◌, ◌⊎◌, ◌==◌, ℕ, zero, suc, Bool, true, false, List, [], ◌∷◌, ◌++◌, length, drop, refl, sym, ◌∙◌, ap, subst, inl, inr, arith, IsFalse, if◌then◌else◌, nat_lt, filter, slice_get, option_to_list, Option, Some, None, add-one}
+use Rattle.std.proofs.Common.{◌≡◌, ◌≢◌, ◌<◌, ◌≤◌, ◌+◌, ◌-◌, ◌&&◌, ◌⊎◌, ◌==◌, ℕ, zero, suc, Bool, true, false, List, [], ◌∷◌, ◌++◌, length, drop, refl, sym, ◌∙◌, ap, subst, inl, inr, arith, IsTrue, IsFalse, if◌then◌else◌, nat_lt, filter, slice_get, option_to_list, Option, Some, None, add-one}
 use Rattle.std.proofs.lemmas.Bool.{cond_both, false≢true, or_parts, not-true}
 use Rattle.std.proofs.lemmas.Bool.Decides.{Decides-eqb, Decides-ltb}
 use Rattle.std.proofs.lemmas.List.{drop-append-le}
@@ -8,23 +8,20 @@ use Rattle.crgc_ids.specs.Actor.{Actor}
 use Rattle.crgc_ids.specs.Members.{IsAmong}
 use Rattle.crgc_ids.proofs.MembersLaws.{IsAmong-append_cases, IsAmong-from_filter}
 use Rattle.history_model.specs.declared.events.Event.{Event}
-use Rattle.history_model.specs.declared.events.Event.TheVariants.{Take, Send, Admit, Repeat}
+use Rattle.history_model.specs.declared.events.Event.TheVariants.{Send, Admit, Repeat}
 use Rattle.history_model.specs.Tally.{tally}
-use Rattle.history_model.specs.Cluster.{Cluster, same_actor}
-use Rattle.history_model.specs.Messages.{Message, sent, message_at, is_admit, is_lose, is_repeat, is_removal, was_admitted, admitted_by, is_to, mail, takes, waiting, copies, is_closed}
+use Rattle.history_model.specs.Cluster.{Cluster}
+use Rattle.history_model.specs.Messages.{Message, sent, message_at, is_admit, is_lose, is_repeat, is_removal, is_take_by, was_admitted, admitted_by, is_to, mail, takes, waiting, copies, is_closed}
+use Rattle.history_model.specs.State.{is_up}
 use Rattle.history_model.specs.Legal.{IsLegal}
 use Rattle.history_model.specs.Quiescent.{IsOnLink, IsLive}
+use Rattle.history_model.specs.Uses.{sent_by}
 use Rattle.history_model.proofs.Basics.{legal-kept}
-use Rattle.history_model.proofs.AccountsBirths.{message_at-among, sent-among}
+use Rattle.history_model.proofs.AccountsBirths.{among-else, among-then, message_at-among, sent-among}
 use Rattle.history_model.proofs.AccountsCopies.{same_number}
 use Rattle.history_model.proofs.AccountsGrowth.{up-before}
 use Rattle.history_model.proofs.AccountsTaken.{takes-mail}
 use Rattle.history_model.proofs.Lists.{tally-more}
-
--- the message is the one that the event sends
-abbrev pub IsSent : Event → Message → Type 0
-IsSent (Send f t refs) m = m ≡ record { from = f; to = t; refs = refs }
-IsSent _ m = ⊥
 
 -- ---- lists
 
@@ -48,13 +45,12 @@ waiting-appended cl p legal b more m among =
 
 waiting-next : (cl : Cluster) (e : Event) (p : List Event) → IsLegal cl (e ∷ p) → (b : Actor) (m : Message) → IsAmong m (waiting b (e ∷ p))
     → IsAmong m (waiting b p) ⊎ IsAmong m (admitted_by e p)
-waiting-next cl (Take x) p legal b m among =
-    let Before : ℕ → Type 0 = λ n. IsAmong m (drop n (mail b p)) → IsAmong m (waiting b p) in
-    let taken : Before (takes b p + 1) = subst Before (sym (add-one (takes b p))) (IsAmong-drop_suc m (takes b p) (mail b p)) in
-    inl (cond_both (same_actor x b) (takes b p + 1) (takes b p) Before (λ _. taken) (λ _ k. k) among)
-waiting-next cl (Send f t refs) p legal b m among = waiting-appended cl p legal.1 b (admitted_by (Send f t refs) p) m among
-waiting-next cl (Admit s d k) p legal b m among = waiting-appended cl p legal.1 b (admitted_by (Admit s d k) p) m among
-waiting-next cl _ p legal b m among = inl among
+waiting-next cl e p legal b m among =
+    let all = mail b p ++ filter (is_to b) (admitted_by e p) in
+    let Waits : ℕ → Type 0 = λ n. IsAmong m (drop n all) → IsAmong m (waiting b p) ⊎ IsAmong m (admitted_by e p) in
+    let kept : Waits (takes b p) = waiting-appended cl p legal.1 b (admitted_by e p) m in
+    let taken : Waits (takes b p + 1) = subst Waits (sym (add-one (takes b p))) (λ later. kept (IsAmong-drop_suc m (takes b p) all later)) in
+    cond_both (is_take_by b e) (takes b p + 1) (takes b p) Waits (λ _. taken) (λ _. kept) among
 
 -- ---- what is under way
 
@@ -83,15 +79,16 @@ admitted-on_link cl s d k p legal m among =
     ) in
     subst (λ x. On x m.to.node) (sym ends.1) (subst (On s) (sym ends.2) here)
 
--- what an event admits was under way, or the event sends it
-admitted-source : (cl : Cluster) (e : Event) (p : List Event) → IsLegal cl (e ∷ p) → (m : Message) → IsAmong m (admitted_by e p)
-    → IsOnLink p m ⊎ IsSent e m
-admitted-source cl (Send f t refs) p legal m among =
-    let new : Message = record { from = f; to = t; refs = refs } in
-    cond_both (f.node == t.node) (new ∷ []) [] (λ ms. IsAmong m ms → IsOnLink p m ⊎ (m ≡ new))
-    (λ _ one. elim one [ inl e ↦ inr e | inr none ↦ absurd none ]) (λ _ none. absurd none) among
-admitted-source cl (Admit s d k) p legal m among = inl (admitted-on_link cl s d k p legal m among)
-admitted-source cl _ p legal m among = absurd among
+-- what an event admits was live, or the event sends it
+pub admitted-live : (cl : Cluster) (e : Event) (p : List Event) → IsLegal cl (e ∷ p) → (m : Message) → IsAmong m (admitted_by e p)
+    → IsLive p m ⊎ IsAmong m (sent_by e)
+admitted-live cl (Send f t refs) p legal m among = inr (among-then (f.node == t.node) m (record { from = f; to = t; refs = refs } ∷ []) among)
+admitted-live cl (Admit s d k) p legal m among =
+    let place = among-else (was_admitted s d k p) m (message_at s d k p) among in
+    let to = (sent-among s d p m (message_at-among s d k p m place)).2 in
+    let up = subst (λ n. IsTrue (is_up n p)) (sym to) (legal-kept cl (Admit s d k) p legal).1.1.1.0 in
+    inl (up, inr (admitted-on_link cl s d k p legal m among))
+admitted-live cl _ p legal m among = absurd among
 
 -- a place of a list with one more item at its end is a place of the list, or has that item
 slice_get-push : {A : Type 0} (xs : List A) (x : A) (k : ℕ)
@@ -127,7 +124,7 @@ copies-before e p s d k same_sent same_repeats some =
     omega arith
 
 -- what is under way after an event was so before, or was sent by it
-on_link-next : (cl : Cluster) (e : Event) (p : List Event) → IsLegal cl (e ∷ p) → (m : Message) → IsOnLink (e ∷ p) m → IsOnLink p m ⊎ IsSent e m
+on_link-next : (cl : Cluster) (e : Event) (p : List Event) → IsLegal cl (e ∷ p) → (m : Message) → IsOnLink (e ∷ p) m → IsOnLink p m ⊎ IsAmong m (sent_by e)
 on_link-next cl (Send f t refs) p legal m on =
     let s = m.from.node in
     let d = m.to.node in
@@ -137,13 +134,13 @@ on_link-next cl (Send f t refs) p legal m on =
     let gone = tally (is_lose s d k) p + tally (is_admit s d k) p in
     let one_if : Bool → ℕ = λ v. if v then 1 else 0 in
     let Was : List Message → Type 0 = λ xs.
-    option_to_list (slice_get xs k) ≡ m ∷ [] → 0 < (one_if (nat_lt k (length xs)) + repeats) - gone → IsOnLink p m ⊎ (m ≡ new) in
+    option_to_list (slice_get xs k) ≡ m ∷ [] → 0 < (one_if (nat_lt k (length xs)) + repeats) - gone → IsOnLink p m ⊎ IsAmong m (new ∷ []) in
     let pushed : Was (sent s d p ++ new ∷ []) = λ there some. elim (slice_get-push (sent s d p) new k) [
       | inl within ↦
           let before : one_if (nat_lt k (length (sent s d p))) ≡ 1 = ap one_if ((Decides-ltb k (length (sent s d p))).1 within.0) in
           let most : one_if (nat_lt k (length (sent s d p ++ new ∷ []))) ≤ 1 = at_most_one (nat_lt k (length (sent s d p ++ new ∷ []))) in
           inl (on_link-before (Send f t refs) p m on (sym (ap option_to_list within.1) ∙ there) (omega arith))
-      | inr last ↦ inr (last m there)
+      | inr last ↦ inr (inl (last m there))
     ] in
     let kept : Was (sent s d p) = λ there some. inl (on_link-before (Send f t refs) p m on there some) in
     cond_both ((f.node == s) && (t.node == d)) (sent s d p ++ new ∷ []) (sent s d p) Was (λ _. pushed) (λ _. kept) on.1 on.4
@@ -167,13 +164,13 @@ on_link-next cl e p legal m on =
     inl (on_link-before e p m on on.1 (copies-before e p m.from.node m.to.node on.0 refl refl on.4))
 
 -- what is live after an event was live before, or is what the event sends
-pub live-next : (cl : Cluster) (e : Event) (p : List Event) → IsLegal cl (e ∷ p) → (m : Message) → IsLive (e ∷ p) m → IsLive p m ⊎ IsSent e m
+pub live-next : (cl : Cluster) (e : Event) (p : List Event) → IsLegal cl (e ∷ p) → (m : Message) → IsLive (e ∷ p) m → IsLive p m ⊎ IsAmong m (sent_by e)
 live-next cl e p legal m live =
     let up = up-before m.to.node (e ∷ []) p live.0 in
     elim live.1 [
       | inl waits ↦ elim (waiting-next cl e p legal m.to m waits) [
         | inl before ↦ inl (up, inl before)
-        | inr now ↦ elim (admitted-source cl e p legal m now) [ inl on ↦ inl (up, inr on) | inr new ↦ inr new ]
+        | inr now ↦ admitted-live cl e p legal m now
       ]
       | inr on ↦ elim (on_link-next cl e p legal m on) [ inl before ↦ inl (up, inr before) | inr new ↦ inr new ]
     ]

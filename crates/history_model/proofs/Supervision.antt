@@ -17,7 +17,7 @@ use Rattle.history_model.specs.Sweeps.{dead_at, is_swept, is_stopped}
 use Rattle.history_model.specs.Legal.{is_parent, gives_up_parent, IsLegal}
 use Rattle.history_model.specs.Quiescent.{IsQuietSet}
 use Rattle.history_model.proofs.Basics.{same_actor-refl, same_actor-equal, legal-kept}
-use Rattle.history_model.proofs.AccountsGrowth.{got-grows}
+use Rattle.history_model.proofs.AccountsGrowth.{carried-grows, got-grows}
 use Rattle.history_model.proofs.AccountsTaken.{gave-got}
 use Rattle.history_model.proofs.FoldSumsKnown.{holds-among}
 use Rattle.history_model.proofs.Stopped.{dead_at-quiet, stopped-quiescent}
@@ -56,19 +56,20 @@ parent-held cl (Spawn s ∷ p) two legal b a parent =
     let given_here : 0 < tally (is_note_of b a) (notes cl (Spawn s) p) =
     subst (λ c. 0 < tally (is_note_of c a) (notes cl (Spawn s) p)) (same_actor-equal child b both.1)
     (subst (λ c. 0 < tally (is_note_of child c) (notes cl (Spawn s) p)) (same_actor-equal s a both.0) given) in
-    omega (arith, before b a, given_here) in
+    omega (arith, before b a, given_here, carried-grows b a (Spawn s ∷ []) p) in
     elim (or_cases (same_actor s a && same_actor child b) (is_parent a b p) parent) [
       | inl same ↦ new same
       | inr earlier ↦ omega (arith, parent-held cl p two legal.1 b a earlier, got-grows cl b a (Spawn s ∷ []) p)
     ]
 parent-held cl (Drop x y ∷ p) two legal b a parent =
     let before = parent-held cl p two legal.1 b a parent in
-    cond_both (same_actor x b && same_actor y a) (gave b a p + 1) (gave b a p) (λ n. n < got cl b a p)
+    let count : gave b a (Drop x y ∷ p) < got cl b a p = cond_both (same_actor x b && same_actor y a) (gave b a p + 1) (gave b a p) (λ n. n < got cl b a p)
     (λ same.
     let both = and_parts (same_actor x b) (same_actor y a) same in
     let legal_here = subst (λ c. IsLegal cl (Drop c a ∷ p)) (same_actor-equal x b both.0) (subst (λ c. IsLegal cl (Drop x c ∷ p)) (same_actor-equal y a both.1) legal) in
     drop-keeps cl b a p two legal_here parent)
-    (λ _. before)
+    (λ _. before) in
+    omega (arith, count, got-grows cl b a (Drop x y ∷ []) p)
 parent-held cl (e ∷ p) two legal b a parent =
     omega (arith, parent-held cl p two legal.1 b a parent, got-grows cl b a (e ∷ []) p)
 

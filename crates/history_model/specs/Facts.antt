@@ -64,7 +64,8 @@ pub record Note : Type 0 where
 abbrev pub note_by : Actor → Fact → Note
 note_by a f = record { by = a; fact = f }
 
--- what the event notes; each reference that a birth or a tie gives is noted by its target
+-- what the event notes; each reference that a birth or a tie gives is noted by its target. In the other forms nobody sends
+-- or takes a message, gets a reference or gives one up
 abbrev pub notes : Cluster → Event → List Event → List Note
 notes cl (Seed n) p = note_by (newborn n p) (created (newborn n p) (newborn n p)) ∷ []
 notes cl (Tie o t) p = note_by t (created o t) ∷ []

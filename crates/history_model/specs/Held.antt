@@ -2,7 +2,7 @@
 use Rattle.std.specs.Prelude.{ℕ, ◌+◌, ◌-◌, Bool, false, ◌&&◌, List, [], ◌∷◌}
 use Rattle.crgc_ids.specs.Actor.{Actor}
 use Rattle.history_model.specs.declared.events.Event.{Event}
-use Rattle.history_model.specs.declared.events.Event.TheVariants.{Seed, Tie, Spawn, Drop}
+use Rattle.history_model.specs.declared.events.Event.TheVariants.{Send, Drop}
 use Rattle.history_model.specs.Tally.{tally}
 use Rattle.history_model.specs.Cluster.{Cluster, same_actor}
 use Rattle.history_model.specs.Messages.{Message, taken}
@@ -11,13 +11,15 @@ use Rattle.history_model.specs.Facts.{Note, is_created, notes}
 abbrev pub is_note_of : Actor → Actor → Note → Bool
 is_note_of b a n = is_created b a n.fact
 
+-- the notes of what the event gives at once. A send notes references that its recipient gets only with the message
+abbrev pub given_at_once : Cluster → Event → List Event → List Note
+given_at_once cl (Send f t refs) p = []
+given_at_once cl e p = notes cl e p
+
 -- references to a that births and ties gave b
 abbrev pub gifts : Cluster → Actor → Actor → List Event → ℕ
 gifts cl b a [] = 0
-gifts cl b a (Seed n ∷ p) = gifts cl b a p + tally (is_note_of b a) (notes cl (Seed n) p)
-gifts cl b a (Tie o t ∷ p) = gifts cl b a p + tally (is_note_of b a) (notes cl (Tie o t) p)
-gifts cl b a (Spawn x ∷ p) = gifts cl b a p + tally (is_note_of b a) (notes cl (Spawn x) p)
-gifts cl b a (_ ∷ p) = gifts cl b a p
+gifts cl b a (e ∷ p) = gifts cl b a p + tally (is_note_of b a) (given_at_once cl e p)
 
 -- references to a that the messages carry; one that is carried twice counts twice
 abbrev pub carried : Actor → List Message → ℕ

@@ -10,6 +10,7 @@ pub mod Graph
 pub mod Sweeps
 pub mod Legal
 pub mod Quiescent
+pub mod Uses
 pub mod Settled
 pub mod Reached
 pub mod Compaction

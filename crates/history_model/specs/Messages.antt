@@ -50,7 +50,8 @@ is_take_by a _ = false
 abbrev pub was_admitted : ℕ → ℕ → ℕ → List Event → Bool
 was_admitted s d k h = list_any (is_admit s d k) h
 
--- the messages that the event admits: one on one node at once, one of a link at the first admission of its number
+-- the messages that the event admits: one on one node at once, one of a link at the first admission of its number. No other
+-- form hands a message to its recipient's node
 abbrev pub admitted_by : Event → List Event → List Message
 admitted_by (Send f t refs) p =
     if f.node == t.node then record { from = f; to = t; refs = refs } ∷ [] else []
@@ -63,9 +64,7 @@ is_to a m = same_actor m.to a
 -- the admitted messages to actor a, in the order of their admission
 abbrev pub mail : Actor → List Event → List Message
 mail a [] = []
-mail a (Send f t refs ∷ p) = mail a p ++ filter (is_to a) (admitted_by (Send f t refs) p)
-mail a (Admit s d k ∷ p) = mail a p ++ filter (is_to a) (admitted_by (Admit s d k) p)
-mail a (_ ∷ p) = mail a p
+mail a (e ∷ p) = mail a p ++ filter (is_to a) (admitted_by e p)
 
 -- how many messages actor a took; it takes its mail in order
 abbrev pub takes : Actor → List Event → ℕ

@@ -3,7 +3,7 @@ use Rattle.std.specs.Prelude.{ℕ, ◌==◌, Bool, true, false, ◌&&◌, ◌||�
 use Rattle.std.specs.Bool.{beq}
 use Rattle.crgc_ids.specs.Actor.{Actor}
 use Rattle.history_model.specs.declared.events.Event.{Event}
-use Rattle.history_model.specs.declared.events.Event.TheVariants.{Seed, Tie, Take, Spawn, Send, Drop, Flush, Publish, Window, Admit, Remove}
+use Rattle.history_model.specs.declared.events.Event.TheVariants.{Flush, Publish, Window, Admit, Remove}
 use Rattle.history_model.specs.Cluster.{Cluster, same_actor}
 use Rattle.history_model.specs.Messages.{admitted_by}
 use Rattle.history_model.specs.State.{is_busy, is_root}
@@ -14,17 +14,14 @@ abbrev pub facts_by : Actor → List Note → List Fact
 facts_by a [] = []
 facts_by a (n ∷ ns) = if same_actor n.by a then n.fact ∷ facts_by a ns else facts_by a ns
 
+abbrev pub is_flush_of : Actor → Event → Bool
+is_flush_of a (Flush b) = same_actor b a
+is_flush_of a _ = false
+
 -- what a noted since its last flush
 abbrev pub log : Cluster → Actor → List Event → List Fact
 log cl a [] = []
-log cl a (Seed n ∷ p) = log cl a p ++ facts_by a (notes cl (Seed n) p)
-log cl a (Tie o t ∷ p) = log cl a p ++ facts_by a (notes cl (Tie o t) p)
-log cl a (Take b ∷ p) = log cl a p ++ facts_by a (notes cl (Take b) p)
-log cl a (Spawn b ∷ p) = log cl a p ++ facts_by a (notes cl (Spawn b) p)
-log cl a (Send f t refs ∷ p) = log cl a p ++ facts_by a (notes cl (Send f t refs) p)
-log cl a (Drop b t ∷ p) = log cl a p ++ facts_by a (notes cl (Drop b t) p)
-log cl a (Flush b ∷ p) = if same_actor b a then [] else log cl a p
-log cl a (_ ∷ p) = log cl a p
+log cl a (e ∷ p) = if is_flush_of a e then [] else log cl a p ++ facts_by a (notes cl e p)
 
 abbrev pub flags_at : Actor → List Event → Flags
 flags_at a h = record { busy = is_busy a h; root = is_root a h }

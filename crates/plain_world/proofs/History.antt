@@ -1,7 +1,7 @@
 -- Histories of the nine forms, and their beginnings.
 use Rattle.std.proofs.Common.{◌≡◌, ◌<◌, ◌+◌, ◌-◌, ℕ, zero, suc, true, false, not, List, [], ◌∷◌, ◌++◌, length, take, drop, reverse, get_or, refl, sym, ◌∙◌, ap, subst, arith}
 use Rattle.std.proofs.lemmas.Bool.{false≢true}
-use Rattle.std.proofs.lemmas.List.{reverse-append, take-append-drop}
+use Rattle.std.proofs.lemmas.List.{append-nil, reverse-append, take-append-drop}
 use Rattle.std.specs.List.{list_any}
 use Rattle.crgc_ids.specs.Actor.{Actor}
 use Rattle.history_model.proofs.Basics.{legal-before}
@@ -40,7 +40,7 @@ no_mail : (a : Actor) (h : List Event) → AreBuilt h → mail a h ≡ []
 no_mail a [] b = refl
 no_mail a (Send f t r ∷ p) b = absurd (false≢true b.0)
 no_mail a (Admit s d k ∷ p) b = absurd (false≢true b.0)
-no_mail a (_ ∷ p) b = no_mail a p b.1
+no_mail a (_ ∷ p) b = append-nil (mail a p) ∙ no_mail a p b.1
 
 take_nil : {X : Type 0} (n : ℕ) → take n (let e : List X = [] in e) ≡ []
 take_nil zero = refl

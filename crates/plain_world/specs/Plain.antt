@@ -5,19 +5,15 @@ use Rattle.std.specs.List.{filter, list_all}
 use Rattle.crgc_ids.specs.Actor.{Actor}
 use Rattle.crgc_ids.specs.Greatest.{greatest}
 use Rattle.history_model.specs.declared.events.Event.{Event}
-use Rattle.history_model.specs.declared.events.Event.TheVariants.{Flush, Publish, Sweep}
+use Rattle.history_model.specs.declared.events.Event.TheVariants.{Publish, Sweep}
 use Rattle.history_model.specs.declared.records.Stop.{Stop}
-use Rattle.history_model.specs.Cluster.{Cluster, same_actor}
+use Rattle.history_model.specs.Cluster.{Cluster}
 use Rattle.history_model.specs.Sweeps.{is_swept}
 use Rattle.history_model.specs.Tally.{tally}
 use Rattle.history_model.specs.Facts.{Fact, created, released, flagged, is_created, is_released}
 use Rattle.history_model.specs.Graph.{named_by, rising_actors, insert_actor, last_flags, may_act, holds_actor}
 use Rattle.plain_world.specs.declared.facts.PlainFact.{PlainFact}
 use Rattle.plain_world.specs.declared.facts.PlainFact.TheVariants.{Created, Released, Flagged}
-
-abbrev pub is_flush_of : Actor → Event → Bool
-is_flush_of a (Flush b) = same_actor b a
-is_flush_of a _ = false
 
 abbrev pub is_publish_of : ℕ → Event → Bool
 is_publish_of n (Publish m) = m == n

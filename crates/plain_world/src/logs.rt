@@ -3,9 +3,9 @@ ghost use Rattle.std.specs.Prelude.{◌≡◌, [], ◌∷◌, true, reverse, IfO
 ghost use Rattle.history_model.specs.declared.events.Event.TheVariants.{Spawn};
 ghost use Rattle.history_model.specs.Cluster.{newborn};
 ghost use Rattle.history_model.specs.Facts.{notes};
-ghost use Rattle.history_model.specs.Streams.{facts_by, log, entry, flushed_flags, are_flags, can_flush};
+ghost use Rattle.history_model.specs.Streams.{facts_by, is_flush_of, log, entry, flushed_flags, are_flags, can_flush};
 ghost use Rattle.plain_world.specs.Built.{is_built, AreBuilt};
-ghost use Rattle.plain_world.specs.Plain.{facts_of, is_flush_of};
+ghost use Rattle.plain_world.specs.Plain.{facts_of};
 
 use crate::constants::{Constants, is_same};
 use crate::facts::PlainFact;

@@ -1,0 +1,49 @@
+-- Whom and what an event is of: the actors that act in it or are used by it, and the messages that it moves. And what it
+-- means that nobody uses an actor any more.
+use Rattle.std.specs.Prelude.{◌≡◌, IsFalse, List, [], ◌∷◌, ◌++◌, take}
+use Rattle.crgc_ids.specs.Actor.{Actor}
+use Rattle.crgc_ids.specs.Members.{IsAmong}
+use Rattle.history_model.specs.declared.events.Event.{Event}
+use Rattle.history_model.specs.declared.events.Event.TheVariants.{Seed, Tie, Wake, Take, Spawn, Send, Drop, Retire, Rest, Flush}
+use Rattle.history_model.specs.Cluster.{Cluster, newborn}
+use Rattle.history_model.specs.Messages.{Message, admitted_by, waiting}
+use Rattle.history_model.specs.Held.{held}
+use Rattle.history_model.specs.Streams.{can_flush}
+use Rattle.history_model.specs.Legal.{IsLegal}
+
+-- the actors that the event is of: who is born, acts or is flushed, and to whom a reference is tied, used, carried or given
+-- up. The other forms are of nodes, links and bulletins
+abbrev pub actors_in : Event → List Event → List Actor
+actors_in (Seed n) p = newborn n p ∷ []
+actors_in (Tie o t) p = o ∷ t ∷ []
+actors_in (Wake a) p = a ∷ []
+actors_in (Take a) p = a ∷ []
+actors_in (Spawn a) p = a ∷ newborn a.node p ∷ []
+actors_in (Send f t refs) p = f ∷ t ∷ refs
+actors_in (Drop a t) p = a ∷ t ∷ []
+actors_in (Retire a) p = a ∷ []
+actors_in (Rest a) p = a ∷ []
+actors_in (Flush a) p = a ∷ []
+actors_in _ p = []
+
+-- the message that the event sends
+abbrev pub sent_by : Event → List Message
+sent_by (Send f t refs) = record { from = f; to = t; refs = refs } ∷ []
+sent_by _ = []
+
+-- the message that the event takes
+abbrev pub taken_by : Event → List Event → List Message
+taken_by (Take a) p = take 1 (waiting a p)
+taken_by _ p = []
+
+-- the messages that the event sends, admits or takes
+abbrev pub messages_in : Event → List Event → List Message
+messages_in e p = sent_by e ++ (admitted_by e p ++ taken_by e p)
+
+-- in every longer legal history: no event is of the actor but its flush, once at most; no message that is moved goes to it or
+-- carries it; and each actor holds as many references to it as at the moment h
+pub record IsUnused (cl : Cluster) (h : List Event) (a : Actor) : Type 0 where
+  pub actors : (e : Event) (q : List Event) → IsLegal cl (e ∷ (q ++ h)) → IsAmong a (actors_in e (q ++ h)) → e ≡ Flush a
+  pub flushed : (q : List Event) → IsLegal cl (q ++ (Flush a ∷ h)) → IsFalse (can_flush cl a (q ++ (Flush a ∷ h)))
+  pub messages : (e : Event) (q : List Event) → IsLegal cl (e ∷ (q ++ h)) → (m : Message) → IsAmong m (messages_in e (q ++ h)) → ¬ IsAmong a (m.to ∷ m.refs)
+  pub references : (q : List Event) → IsLegal cl (q ++ h) → (b : Actor) → held cl b a (q ++ h) ≡ held cl b a h
