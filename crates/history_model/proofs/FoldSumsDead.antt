@@ -90,18 +90,15 @@ module _ (cl : Cluster) (lost : ℕ → Bool) (out : Actor → Bool) (f : Fold) 
 
 -- ---- the dead of a fold
 
--- a candidate: its node is not lost
+-- candidates and closed lists where the actors of lost nodes are left out
 abbrev pub IsCandidate : Cluster → (ℕ → Bool) → Fold → Actor → Type 0
-IsCandidate cl lost f a =
-    IsAmong a (known_actors cl f) × (lost a.node ≡ false) × (is_pseudoroot cl lost f a ≡ false)
+IsCandidate cl lost f a = IsCandidateWithout cl lost (λ b. lost b.node) f a
 
 abbrev pub AreCandidates : Cluster → (ℕ → Bool) → Fold → List Actor → Type 0
 AreCandidates cl lost f xs = (a : Actor) → IsAmong a xs → IsCandidate cl lost f a
 
--- no actor outside the list and the lost nodes has a positive edge to a member
 abbrev pub AreClosed : Cluster → (ℕ → Bool) → Fold → List Actor → Type 0
-AreClosed cl lost f xs =
-    (b a : Actor) → IsAmong a xs → has_edge cl lost f b a ≡ true → lost b.node ≡ false → IsAmong b xs
+AreClosed cl lost f xs = AreClosedWithout cl lost (λ b. lost b.node) f xs
 
 -- a dead actor is known, its node is not lost, its own entry says neither busy nor root, and its balance is 0
 pub record IsDeadActor (cl : Cluster) (lost : ℕ → Bool) (f : Fold) (a : Actor) : Type 0 where
