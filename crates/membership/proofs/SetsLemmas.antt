@@ -3,7 +3,7 @@ use Rattle.std.proofs.Common.{◌≡◌, ◌<◌, ◌+◌, ◌&&◌, ℕ, zero, 
 use Rattle.std.proofs.lemmas.Bool.{and_parts, cases_lt, false≢true, le-ltb, ne_eqb}
 use Rattle.std.proofs.lemmas.List.{append-nil}
 use Rattle.std.specs.List.{AllByRecursion, filter, list_all, range_with_len}
-use Rattle.crgc_ids.proofs.MembersLaws.{IsAmong-filter, IsAmong-from_filter, IsAmong-from_range, IsAmong-range, all-member, list_all-members, list_all-true}
+use Rattle.crgc_ids.proofs.MembersLaws.{IsAmong-filter, IsAmong-from_filter, IsAmong-from_range, IsAmong-range, all-member, list_all-members, list_all-true, all-from_members}
 use Rattle.crgc_ids.proofs.NodesLaws.{has_node-from_true, has_node-member}
 use Rattle.crgc_ids.proofs.RisingLaws.{IsRising-filter, IsRising-range, rising_nodes-same}
 use Rattle.crgc_ids.specs.Members.{IsAmong}
@@ -29,15 +29,12 @@ filter-range_more p a (suc n) =
       | false ↦ later
     ])
 
-all_filter : (P : ℕ → Type 0) (p : ℕ → Bool) (xs : List ℕ) → ((x : ℕ) → IsAmong x xs → P x) → AllByRecursion P (filter p xs)
-all_filter P p [] h = tt
-all_filter P p (x ∷ xs) h =
-    let rest = all_filter P p xs (λ y m. h y (inr m)) in
-    elim (p x) as (λ b. AllByRecursion P (cond b (x ∷ filter p xs) (filter p xs))) [ true ↦ (h x (inl refl), rest) | false ↦ rest ]
-
 -- the nodes below n that pass are below n
 pub filter-below : (p : ℕ → Bool) (n : ℕ) → AllByRecursion (λ x. x < n) (filter p (nodes_below n))
-filter-below p n = all_filter (λ x. x < n) p (nodes_below n) (λ x m. let range = IsAmong-from_range x 0 n m in omega arith)
+filter-below p n =
+    all-from_members (λ x. x < n) (filter p (nodes_below n)) (λ x m.
+    let range = IsAmong-from_range x 0 n (IsAmong-from_filter p x (nodes_below n) m).0 in
+    omega arith)
 
 filter_more : (p : ℕ → Bool) (n : ℕ) → filter p (nodes_below (n + 1)) ≡ filter p (nodes_below n) ++ cond (p n) (n ∷ []) []
 filter_more p n =

@@ -1,10 +1,11 @@
 -- Rows that count actors, and rows that count pairs, as they are sorted and added up.
-use Rattle.std.proofs.Common.{◌≡◌, ◌<◌, ◌+◌, ◌&&◌, ℕ, Bool, true, false, cond, min, Ordering, eqb, ltb, refl, sym, ◌∙◌, ap, subst, inl, inr, arith}
-use Rattle.std.proofs.lemmas.Bool.{false≢true, le-ltb, lt-ltb}
-use Rattle.std.proofs.lemmas.Bool.Decides.{Decides-and, Decides-eqb, Decides-like}
-use Rattle.std.specs.Ordering.{is_lt, nat_cmp, ordering_then}
-use Rattle.std.specs.declared.cmp.Ordering.TheVariants.{Equal, Less}
-use Rattle.crgc_ids.proofs.ActorLaws.{IsActorBelow-trans, IsPairBelow-trans, actor_cases, same_actor-decides}
+use Rattle.std.proofs.Common.{◌≡◌, ◌⊎◌, ◌+◌, ◌&&◌, ℕ, Bool, true, false, cond, min, Ordering, sym, ◌∙◌, ap, inl, inr, arith}
+use Rattle.std.proofs.lemmas.Bool.{false≢true}
+use Rattle.std.proofs.lemmas.Bool.Decides.{Decides-and, Decides-like}
+use Rattle.std.specs.Ordering.{MatchOrdering, is_lt, nat_cmp, ordering_then}
+use Rattle.std.specs.declared.cmp.Ordering.TheVariants.{Equal, Greater, Less}
+use Rattle.crgc_ids.proofs.ActorLaws.{IsActorBelow-trans, IsPairBelow-trans, same_actor-decides}
+use Rattle.crgc_ids.proofs.ActorOrder.{actor_cmp, actor_cmp-tells}
 use Rattle.crgc_ids.specs.Actor.{Actor, IsActorBelow, IsPairBelow, same_actor}
 use Rattle.crgc_ids.specs.declared.rising.ActorCount.{ActorCount}
 use Rattle.crgc_ids.specs.declared.rising.PairCount.{PairCount}
@@ -26,53 +27,30 @@ pair_order = record {
   told = λ p q. Decides-like (same_pair p q) (λ h. (λ i. (h.0 i, h.1 i))) (λ e. (ap (λ x. x.0) e, ap (λ x. x.1) e)) (Decides-and (same_actor p.0 q.0) (same_actor p.1 q.1) (same_actor-decides p.0 q.0) (same_actor-decides p.1 q.1));
 }
 
-abbrev pub actor_cmp : Actor → Actor → Ordering
-actor_cmp a b = ordering_then (nat_cmp a.node b.node) (nat_cmp a.serial b.serial)
-
-less : (m n : ℕ) → m < n → nat_cmp m n ≡ Less
-less m n h = rw (lt-ltb m n h) refl
-
-equal : (m n : ℕ) → m ≡ n → nat_cmp m n ≡ Equal
-equal m n e =
-    let above : ltb m n ≡ false = le-ltb m n (omega arith) in
-    let same : eqb m n ≡ true = (Decides-eqb m n).1 e in
-    rw (above, same) refl
-
-pub actor_less : (a b : Actor) → IsActorBelow a b → actor_cmp a b ≡ Less
-actor_less a b (inl h) = rw (less a.node b.node h) refl
-actor_less a b (inr h) = rw (equal a.node b.node h.0, less a.serial b.serial h.1) refl
-
-pub actor_equal : (a b : Actor) → a ≡ b → actor_cmp a b ≡ Equal
-actor_equal a b e = rw (equal a.node b.node (ap (λ c. c.node) e), equal a.serial b.serial (ap (λ c. c.serial) e)) refl
+-- where the second actor does not come before the first, it is above the first, or the two are one and what comes next
+-- decides
+not_less : (a b : Actor) (next : Ordering) → is_lt (ordering_then (actor_cmp b a) next) ≡ false → IsActorBelow a b ⊎ ((a ≡ b) × (is_lt next ≡ false))
+not_less a b next h =
+    let Case : Ordering → Type 0 = λ o. MatchOrdering o (IsActorBelow b a) (b ≡ a) (IsActorBelow a b) → is_lt (ordering_then o next) ≡ false → IsActorBelow a b ⊎ ((a ≡ b) × (is_lt next ≡ false)) in
+    let case : Case (actor_cmp b a) = elim (actor_cmp b a) as Case [
+      | Less ↦ λ _ t. absurd (false≢true (sym t))
+      | Equal ↦ λ same t. inr (sym same, t)
+      | Greater ↦ λ above _. inl above
+    ] in
+    case (actor_cmp-tells b a) h
 
 -- of two rows that sorting left in their order, the first one's key is not above the second one's
 pub counts-sorted : (x y : ActorCount) → is_lt (ordering_then (actor_cmp y.actor x.actor) (nat_cmp y.count x.count)) ≡ false → AtMost IsActorBelow x.actor y.actor
 counts-sorted x y h =
-    elim (actor_cases x.actor y.actor) [
-      | inl below ↦ inr below
-      | inr other ↦ elim other [
-        | inl same ↦ inl same
-        | inr above ↦ (let less = ap (λ o. is_lt (ordering_then o (nat_cmp y.count x.count))) (actor_less y.actor x.actor above) in absurd (false≢true (sym h ∙ less)))
-      ]
-    ]
+    elim (not_less x.actor y.actor (nat_cmp y.count x.count) h) [ inl below ↦ inr below | inr same ↦ inl same.0 ]
 
 pub pairs-sorted : (x y : PairCount) → is_lt (ordering_then (actor_cmp y.owner x.owner) (ordering_then (actor_cmp y.target x.target) (nat_cmp y.count x.count))) ≡ false → AtMost PairBelow (x.owner, x.target) (y.owner, y.target)
 pairs-sorted x y h =
-    let Then : Ordering → Type 0 = λ o. is_lt (ordering_then o (ordering_then (actor_cmp y.target x.target) (nat_cmp y.count x.count))) ≡ false in
-    elim (actor_cases x.owner y.owner) [
+    elim (not_less x.owner y.owner (ordering_then (actor_cmp y.target x.target) (nat_cmp y.count x.count)) h) [
       | inl below ↦ inr (inl below)
-      | inr other ↦ elim other [
-        | inl same ↦ (
-            let rest : Then Equal = subst Then (actor_equal y.owner x.owner (sym same)) h in
-            elim (actor_cases x.target y.target) [
-              | inl below ↦ inr (inr (same, below))
-              | inr later ↦ elim later [
-                | inl one ↦ inl (λ i. (same i, one i))
-                | inr above ↦ (let less = ap (λ o. is_lt (ordering_then o (nat_cmp y.count x.count))) (actor_less y.target x.target above) in absurd (false≢true (sym rest ∙ less)))
-              ]
-            ]
-            )
-        | inr above ↦ (let less = ap (λ o. is_lt (ordering_then o (ordering_then (actor_cmp y.target x.target) (nat_cmp y.count x.count)))) (actor_less y.owner x.owner above) in absurd (false≢true (sym h ∙ less)))
+      | inr owner ↦ elim (not_less x.target y.target (nat_cmp y.count x.count) owner.1) [
+        | inl below ↦ inr (inr (owner.0, below))
+        | inr target ↦ inl (λ i. (owner.0 i, target.0 i))
       ]
     ]
 

@@ -9,6 +9,7 @@ use Rattle.std.specs.List.{AllByRecursion, sum_by}
 use Rattle.std.specs.List.Retain.{DedupsAll, DedupsFrom}
 use Rattle.std.specs.List.Sorted.{IsPermutation, IsSortedBy}
 use Rattle.crgc_ids.specs.Rising.{IsRising}
+use Rattle.crgc_ids.proofs.MembersLaws.{all-implied}
 
 -- an order of keys, and the test of their sameness
 pub record IsKeyOrder {K : Type 0} (below : K → K → Type 0) (same : K → K → Bool) : Type 0 where
@@ -47,11 +48,6 @@ pub record IsSum {K X : Type 0} (below : K → K → Type 0) (same : K → K →
   pub rise : IsRising (λ r s. below (key r) (key s)) ys
   pub stand : AllByRecursion (λ y. 0 < count y) ys
   pub totals : (t : K) → total same key count t ys ≡ total same key count t xs
-
--- what follows from what is so of each row is so of each
-pub all-implied : {X : Type 0} (P Q : X → Type 0) → ((x : X) → P x → Q x) → (xs : List X) → AllByRecursion P xs → AllByRecursion Q xs
-all-implied P Q implies [] all = tt
-all-implied P Q implies (x ∷ xs) all = (implies x all.0, all-implied P Q implies xs all.1)
 
 below-at_most : {K : Type 0} (below : K → K → Type 0) (trans : (i j k : K) → below i j → below j k → below i k) (i j k : K) → below i j → AtMost below j k → below i k
 below-at_most below trans i j k h (inl e) = subst (below i) e h
