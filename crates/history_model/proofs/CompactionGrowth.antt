@@ -12,13 +12,14 @@ use Rattle.history_model.specs.declared.events.Event.TheVariants.{Flush, Publish
 use Rattle.history_model.specs.Tally.{tally}
 use Rattle.history_model.specs.Cluster.{Cluster, same_actor}
 use Rattle.history_model.specs.Compaction.{IsFoldOf, IsWithin}
-use Rattle.history_model.specs.Facts.{Fact, Flags, Note, notes}
+use Rattle.history_model.specs.Facts.{Flags, Note, notes}
 use Rattle.history_model.specs.Folds.{Fold, cut_at, fold_to, folded}
 use Rattle.history_model.specs.Graph.{known_actors, notice_facts}
-use Rattle.history_model.specs.Streams.{Notice, delta, window_of, final_of, flags_at, stream}
+use Rattle.history_model.specs.Streams.{Notice, flags_at, stream}
 use Rattle.history_model.proofs.AccountsGrowth.{length-begins}
 use Rattle.history_model.proofs.FoldSumsHorizons.{flush_horizon-within, publish_horizon-within}
 use Rattle.history_model.proofs.FoldSumsKnown.{known-named}
+use Rattle.history_model.proofs.JoinedBulletins.{notice_facts-append}
 use Rattle.history_model.proofs.LinksStreams.{cut-grows, stream-grows}
 use Rattle.history_model.proofs.Lists.{tally-append}
 use Rattle.history_model.proofs.Sums.{flush_horizon, horizon_flags, noted_sum, publish_horizon, told_horizon, told_sum}
@@ -165,16 +166,6 @@ untold-shrinks cl u v s t rises part (e ∷ p) =
     omega (arith, before, here)
 
 -- ---- known actors
-
-before_both : (facts first second both : List Fact) → both ≡ first ++ second → facts ++ both ≡ (facts ++ first) ++ second
-before_both facts first second both e = ap (λ l. facts ++ l) e ∙ sym (append_assoc facts first second)
-
--- joined bulletins tell what both tell
-notice_facts-append : (xs ys : List Notice) → notice_facts (xs ++ ys) ≡ notice_facts xs ++ notice_facts ys
-notice_facts-append [] ys = refl
-notice_facts-append (delta facts ∷ xs) ys = before_both facts _ _ _ (notice_facts-append xs ys)
-notice_facts-append (window_of s facts ∷ xs) ys = before_both facts _ _ _ (notice_facts-append xs ys)
-notice_facts-append (final_of s facts ∷ xs) ys = before_both facts _ _ _ (notice_facts-append xs ys)
 
 -- who is known stays known
 pub known-stays : (cl : Cluster) (g f : Fold) → IsWithin g f → IsPart (known_actors cl g) (known_actors cl f)

@@ -13,6 +13,7 @@ pub mod FoldSumsNotes
 pub mod FoldSumsHorizons
 pub mod FoldSumsLogs
 pub mod FoldSumsFlags
+pub mod JoinedBulletins
 pub mod FoldSumsBulletins
 pub mod FoldSumsStreams
 pub mod FoldSumsCounts
