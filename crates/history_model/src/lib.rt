@@ -5,6 +5,7 @@ pub mod bulletin_laws;
 mod events;
 mod history;
 pub mod laws;
+pub mod live_laws;
 mod records;
 
 pub use events::{Event, Rule};
