@@ -53,7 +53,9 @@ pub mod TellsCounts
 pub mod TellsNames
 pub mod TellsBulletins
 pub mod TellsWindows
+pub mod TellsEntries
 pub mod OneMoreSums
 pub mod TellsFacts
 pub mod OneMoreBulletin
 pub mod OneMoreLost
+pub mod LiveCounts

@@ -40,7 +40,7 @@ named-alike c d alike a (is_given_up x l) = is_given_up x (omega (arith, l, alik
 
 -- ---- facts
 
-tally-member : {X : Type 0} (test : X → Bool) (x : X) (xs : List X) → IsAmong x xs → test x ≡ true → 0 < tally test xs
+pub tally-member : {X : Type 0} (test : X → Bool) (x : X) (xs : List X) → IsAmong x xs → test x ≡ true → 0 < tally test xs
 tally-member test x [] m t = absurd m
 tally-member test x (y ∷ ys) (inl e) t = subst (λ v. 0 < cond v (tally test ys + 1) (tally test ys)) (sym (ap test (sym e) ∙ t)) (omega arith)
 tally-member test x (y ∷ ys) (inr m) t =
