@@ -57,3 +57,6 @@ pub mod OneMoreSums
 pub mod TellsFacts
 pub mod OneMoreBulletin
 pub mod OneMoreLost
+pub mod ExamplesTests
+pub mod Examples
+pub mod ExamplesEvents
