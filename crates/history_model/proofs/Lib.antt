@@ -59,3 +59,6 @@ pub mod TellsFacts
 pub mod OneMoreBulletin
 pub mod OneMoreLost
 pub mod LiveCounts
+pub mod ExamplesTests
+pub mod Examples
+pub mod ExamplesEvents
