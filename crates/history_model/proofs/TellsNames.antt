@@ -16,8 +16,9 @@ use Rattle.history_model.specs.Ledgers.{CountAlike, CountFromOne, Counts, Ledger
 use Rattle.history_model.proofs.Basics.{same_actor-equal, same_actor-refl}
 use Rattle.history_model.proofs.FoldSumsKnown.{created-names, names-among}
 use Rattle.history_model.proofs.Lists.{IsAmong-flat_map, IsAmong-from_flat_map, tally-some}
-use Rattle.history_model.proofs.TellsRows.{actor_order, pair_order, total-some}
+use Rattle.history_model.proofs.TellsRows.{total-some}
 use Rattle.history_model.proofs.TellsSums.{sum_by-member}
+use Rattle.crgc_ids.proofs.KeyOrders.{actor_order, pair_order}
 
 -- some count of a is not 0, or a has flags
 pub data IsNamed (c : Counts) (a : Actor) : Type 0 where
