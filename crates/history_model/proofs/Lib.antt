@@ -54,7 +54,12 @@ pub mod TellsCounts
 pub mod TellsNames
 pub mod TellsBulletins
 pub mod TellsWindows
+pub mod TellsEntries
 pub mod OneMoreSums
 pub mod TellsFacts
 pub mod OneMoreBulletin
 pub mod OneMoreLost
+pub mod LiveCounts
+pub mod ExamplesTests
+pub mod Examples
+pub mod ExamplesEvents

@@ -30,7 +30,7 @@ use Rattle.history_model.proofs.SoundnessStep.{told-always}
 -- ---- births
 
 -- the recipient of a live message is born
-live-born : (cl : Cluster) (h : List Event) → IsLegal cl h → (m : Message) → IsLive h m → IsTrue (is_born m.to h)
+pub live-born : (cl : Cluster) (h : List Event) → IsLegal cl h → (m : Message) → IsLive h m → IsTrue (is_born m.to h)
 live-born cl h legal m live =
     elim live.1 [
       | inl waits ↦ (mail-born cl h legal m.to m (waiting-among m.to h m waits)).1
@@ -41,7 +41,7 @@ live-born cl h legal m live =
     ]
 
 -- who got a reference is born
-got-born : (cl : Cluster) (h : List Event) → IsLegal cl h → (b a : Actor) → 0 < got cl b a h → IsTrue (is_born b h)
+pub got-born : (cl : Cluster) (h : List Event) → IsLegal cl h → (b a : Actor) → 0 < got cl b a h → IsTrue (is_born b h)
 got-born cl h legal b a some =
     let weight : Message → ℕ = λ m. tally (same_actor a) m.refs in
     let noted = created-noted cl h (λ _. true) b a refl in

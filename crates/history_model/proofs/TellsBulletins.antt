@@ -22,7 +22,8 @@ use Rattle.history_model.proofs.Basics.{same_actor-equal, same_actor-refl}
 use Rattle.history_model.proofs.RisingActors.{rising_actors-same}
 use Rattle.history_model.proofs.TellsCounts.{alike-back, alike-both, alike-then, both, facts-both, rows-both}
 use Rattle.history_model.proofs.TellsNames.{facts-named, named-alike, row_flags-some, rows-named}
-use Rattle.history_model.proofs.TellsRows.{actor_order, counted-same, key-other, pair_order, rows-same, total-row}
+use Rattle.history_model.proofs.TellsRows.{counted-same, key-other, rows-same, total-row}
+use Rattle.crgc_ids.proofs.KeyOrders.{actor_order, pair_order}
 
 -- ---- rising rows that count alike are the same
 

@@ -16,8 +16,9 @@ use Rattle.history_model.specs.Ledgers.{CountAlike, CountFromOne, Counts, Ledger
 use Rattle.history_model.proofs.Basics.{same_actor-equal, same_actor-refl}
 use Rattle.history_model.proofs.FoldSumsKnown.{created-names, names-among}
 use Rattle.history_model.proofs.Lists.{IsAmong-flat_map, IsAmong-from_flat_map, tally-some}
-use Rattle.history_model.proofs.TellsRows.{actor_order, pair_order, total-some}
+use Rattle.history_model.proofs.TellsRows.{total-some}
 use Rattle.history_model.proofs.TellsSums.{sum_by-member}
+use Rattle.crgc_ids.proofs.KeyOrders.{actor_order, pair_order}
 
 -- some count of a is not 0, or a has flags
 pub data IsNamed (c : Counts) (a : Actor) : Type 0 where
@@ -40,7 +41,7 @@ named-alike c d alike a (is_given_up x l) = is_given_up x (omega (arith, l, alik
 
 -- ---- facts
 
-tally-member : {X : Type 0} (test : X → Bool) (x : X) (xs : List X) → IsAmong x xs → test x ≡ true → 0 < tally test xs
+pub tally-member : {X : Type 0} (test : X → Bool) (x : X) (xs : List X) → IsAmong x xs → test x ≡ true → 0 < tally test xs
 tally-member test x [] m t = absurd m
 tally-member test x (y ∷ ys) (inl e) t = subst (λ v. 0 < cond v (tally test ys + 1) (tally test ys)) (sym (ap test (sym e) ∙ t)) (omega arith)
 tally-member test x (y ∷ ys) (inr m) t =

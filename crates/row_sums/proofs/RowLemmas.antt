@@ -9,23 +9,8 @@ use Rattle.crgc_ids.proofs.ActorOrder.{actor_cmp, actor_cmp-tells}
 use Rattle.crgc_ids.specs.Actor.{Actor, IsActorBelow, IsPairBelow, same_actor}
 use Rattle.crgc_ids.specs.declared.rising.ActorCount.{ActorCount}
 use Rattle.crgc_ids.specs.declared.rising.PairCount.{PairCount}
-use Rattle.row_sums.proofs.SumLemmas.{AtMost, IsKeyOrder, TakesIn}
-
-pub actor_order : IsKeyOrder IsActorBelow same_actor
-actor_order = record { trans = IsActorBelow-trans; told = same_actor-decides }
-
--- pairs of an owner and a target
-abbrev pub PairBelow : Actor × Actor → Actor × Actor → Type 0
-PairBelow p q = IsPairBelow p.0 p.1 q.0 q.1
-
-abbrev pub same_pair : Actor × Actor → Actor × Actor → Bool
-same_pair p q = same_actor p.0 q.0 && same_actor p.1 q.1
-
-pub pair_order : IsKeyOrder PairBelow same_pair
-pair_order = record {
-  trans = λ p q r. IsPairBelow-trans p.0 p.1 q.0 q.1 r.0 r.1;
-  told = λ p q. Decides-like (same_pair p q) (λ h. (λ i. (h.0 i, h.1 i))) (λ e. (ap (λ x. x.0) e, ap (λ x. x.1) e)) (Decides-and (same_actor p.0 q.0) (same_actor p.1 q.1) (same_actor-decides p.0 q.0) (same_actor-decides p.1 q.1));
-}
+use Rattle.row_sums.proofs.SumLemmas.{AtMost, TakesIn}
+use Rattle.crgc_ids.proofs.KeyOrders.{PairBelow}
 
 -- where the second actor does not come before the first, it is above the first, or the two are one and what comes next
 -- decides

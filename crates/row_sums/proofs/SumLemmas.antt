@@ -10,11 +10,7 @@ use Rattle.std.specs.List.Retain.{DedupsAll, DedupsFrom}
 use Rattle.std.specs.List.Sorted.{IsPermutation, IsSortedBy}
 use Rattle.crgc_ids.specs.Rising.{IsRising}
 use Rattle.crgc_ids.proofs.MembersLaws.{all-implied}
-
--- an order of keys, and the test of their sameness
-pub record IsKeyOrder {K : Type 0} (below : K → K → Type 0) (same : K → K → Bool) : Type 0 where
-  pub trans : (i j k : K) → below i j → below j k → below i k
-  pub told : (j k : K) → Decides (same j k) (j ≡ k)
+use Rattle.crgc_ids.proofs.KeyOrders.{IsKeyOrder}
 
 abbrev pub AtMost : {K : Type 0} → (K → K → Type 0) → K → K → Type 0
 AtMost below j k = (j ≡ k) ⊎ below j k

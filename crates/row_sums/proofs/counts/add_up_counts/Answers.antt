@@ -1,9 +1,10 @@
 use Rattle.std.proofs.Common.{◌+◌, min, refl, rules}
 use Rattle.crgc_ids.specs.Actor.{IsActorBelow, same_actor}
 use Rattle.crgc_ids.specs.declared.rising.ActorCount.{ActorCount}
-use Rattle.row_sums.proofs.RowLemmas.{actor_order, counts-sorted, takes_in}
+use Rattle.row_sums.proofs.RowLemmas.{counts-sorted, takes_in}
 use Rattle.row_sums.proofs.SumLemmas.{is_sum}
 use Rattle.row_sums.proofs.counts.add_up_counts.Goals as goal
+use Rattle.crgc_ids.proofs.KeyOrders.{actor_order}
 
 pub returns : goal.returns
 returns c =

@@ -1,8 +1,9 @@
 use Rattle.std.proofs.Common.{◌+◌, min, refl, rules}
 use Rattle.crgc_ids.specs.declared.rising.PairCount.{PairCount}
-use Rattle.row_sums.proofs.RowLemmas.{PairBelow, pair_order, pairs-sorted, same_pair, takes_in}
+use Rattle.row_sums.proofs.RowLemmas.{pairs-sorted, takes_in}
 use Rattle.row_sums.proofs.SumLemmas.{is_sum}
 use Rattle.row_sums.proofs.pairs.add_up_pairs.Goals as goal
+use Rattle.crgc_ids.proofs.KeyOrders.{PairBelow, pair_order, same_pair}
 
 pub returns : goal.returns
 returns c =
