@@ -48,14 +48,12 @@ pub mod CompactionGrowth
 pub mod CompactionDead
 pub mod CompactedSweeps
 mod CompactionExamples
-pub mod TellsSums
 pub mod TellsRows
 pub mod TellsCounts
 pub mod TellsNames
 pub mod TellsBulletins
 pub mod TellsWindows
 pub mod TellsEntries
-pub mod OneMoreSums
 pub mod TellsFacts
 pub mod OneMoreBulletin
 pub mod OneMoreLost

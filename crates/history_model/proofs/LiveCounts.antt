@@ -23,7 +23,7 @@ use Rattle.history_model.proofs.AccountsBirths.{born-grows, born-on_node, mail-a
 use Rattle.history_model.proofs.Lists.{place-within, tally-some}
 use Rattle.history_model.proofs.States.{some_waits, waiting-live}
 use Rattle.history_model.proofs.TellsNames.{tally-member}
-use Rattle.history_model.proofs.TellsSums.{sum_by-member, sum_by-some}
+use Rattle.history_model.proofs.LinksSums.{sum_by-positive, sum_by-some}
 
 -- ---- the actors of a node
 
@@ -72,7 +72,7 @@ module _ (cl : Cluster) (h : List Event) (legal : IsLegal cl h) where
   live-counted : (m : Message) → IsLive h m → (m.to.node < cl.nodes) × (0 < live_at cl m.to.node h)
   live-counted m (up, inl waits) =
       let born = (mail-born cl h legal m.to m (waiting-among m.to h m waits)).1 in
-      let here = sum_by-member (λ a. length (waiting a h)) m.to (actors_of m.to.node h) (actors_of-born h m.to born) (message-counts m (waiting m.to h) waits) in
+      let here = sum_by-positive (λ a. length (waiting a h)) m.to (actors_of m.to.node h) (actors_of-born h m.to born) (message-counts m (waiting m.to h) waits) in
       let node = m.to.node in
       let all = cond-true (is_up node h) (waiting_at node h + coming_to cl node h) 0 up in
       (born-on_node cl h legal m.to born, omega (arith, here, all))
@@ -89,7 +89,7 @@ module _ (cl : Cluster) (h : List Event) (legal : IsLegal cl h) where
       let one = tally-member (is_under_way s d h) k (range_with_len 0 (length (sent s d h))) (IsAmong-range k 0 (length (sent s d h)) (omega arith) (omega arith)) test in
       let apart = cond-false (s == d) 0 (under_way s d h) (ne_eqb s d on_link.5) in
       let from = born-on_node cl h legal m.from born.0 in
-      let coming = sum_by-member (λ x. cond (x == d) 0 (under_way x d h)) s (nodes_below cl.nodes) (IsAmong-range s 0 cl.nodes (omega arith) (omega arith)) (omega (arith, one, apart)) in
+      let coming = sum_by-positive (λ x. cond (x == d) 0 (under_way x d h)) s (nodes_below cl.nodes) (IsAmong-range s 0 cl.nodes (omega arith) (omega arith)) (omega (arith, one, apart)) in
       let all = cond-true (is_up d h) (waiting_at d h + coming_to cl d h) 0 up in
       (born-on_node cl h legal m.to born.1, omega (arith, coming, all))
 
@@ -153,7 +153,7 @@ module _ (cl : Cluster) (h : List Event) (legal : IsLegal cl h) where
     λ none m live.
         let counts = live-counted m live in
         let below = counts.0 in
-        let all = sum_by-member (λ n. live_at cl n h) m.to.node (nodes_below cl.nodes) (IsAmong-range m.to.node 0 cl.nodes (omega arith) (omega arith)) counts.1 in
+        let all = sum_by-positive (λ n. live_at cl n h) m.to.node (nodes_below cl.nodes) (IsAmong-range m.to.node 0 cl.nodes (omega arith) (omega arith)) counts.1 in
         absurd (omega (arith, none, all)),
     λ none. elim (cases_lt 0 (live_count cl h)) [
       | inl some ↦ (
@@ -196,7 +196,7 @@ busy_count-none cl h legal = (
         let below = born-on_node cl h legal a born in
         let one = tally-member (λ b. is_busy b h) a (actors_of a.node h) (actors_of-born h a born) busy in
         let here = cond-true (is_up a.node h) (tally (λ b. is_busy b h) (actors_of a.node h)) 0 up in
-        let all = sum_by-member (λ n. busy_at n h) a.node (nodes_below cl.nodes) (IsAmong-range a.node 0 cl.nodes (omega arith) (omega arith)) (omega (arith, one, here)) in
+        let all = sum_by-positive (λ n. busy_at n h) a.node (nodes_below cl.nodes) (IsAmong-range a.node 0 cl.nodes (omega arith) (omega arith)) (omega (arith, one, here)) in
         absurd (omega (arith, none, all))
         )
   ],

@@ -30,7 +30,7 @@ use Rattle.history_model.proofs.LinksSettled.{final_links-from, final_links-memb
 use Rattle.history_model.proofs.JoinedBulletins.{delta_facts-append, link_facts-append, links_into-append, notice_facts-append}
 use Rattle.history_model.proofs.Lists.{IsAmong-flat_map, IsAmong-from_flat_map, tally-append}
 use Rattle.history_model.proofs.TellsBulletins.{ledger-named, no_entries-tell, tells-counts}
-use Rattle.history_model.proofs.OneMoreSums.{sum_by-one_node, tally-flat_map}
+use Rattle.history_model.proofs.LinksSums.{nodes-point, tally-flat_map}
 
 -- ---- the bulletins of one node with one more
 
@@ -82,7 +82,7 @@ module _ (cl : Cluster) (o : ℕ) (n : Notice) (f : Fold) (inside : o < cl.nodes
       let others : (k : ℕ) → k ≢ o → tally test (pieces k (with_notice o n f k)) ≡ tally test (pieces k (f k)) =
       λ k other. ap (λ ns. tally test (pieces k ns)) (with_notice-else o k n f other) in
       tally-flat_map test (λ k. pieces k (with_notice o n f k)) (nodes_below cl.nodes)
-      ∙ sum_by-one_node (λ k. tally test (pieces k (f k))) (λ k. tally test (pieces k (with_notice o n f k))) o (tally test more) cl.nodes inside here others
+      ∙ nodes-point (λ k. tally test (pieces k (with_notice o n f k))) (λ k. tally test (pieces k (f k))) o (tally test more) cl.nodes inside others here
       ∙ ap (λ x. x + tally test more) (sym (tally-flat_map test (λ k. pieces k (f k)) (nodes_below cl.nodes)))
 
   told-more : (test : Fact → Bool) → tally test (all_told cl (with_notice o n f)) ≡ tally test (all_told cl f) + tally test (own_part n)

@@ -11,7 +11,7 @@ use Rattle.history_model.specs.Graph.{admitted_facts, delta_facts, link_facts, t
 use Rattle.history_model.specs.MoreFolded.{IsLostToo, MovesCounts, admitted_from, told_by}
 use Rattle.history_model.proofs.Basics.{eqb-refl}
 use Rattle.history_model.proofs.Lists.{tally-append}
-use Rattle.history_model.proofs.OneMoreSums.{sum_by-one_node, sum_by-split, tally-flat_map}
+use Rattle.history_model.proofs.LinksSums.{nodes-point, sum_by-both, tally-flat_map}
 
 module _ (cl : Cluster) (s : ℕ) (f : Fold) (lost more : ℕ → Bool) (too : IsLostToo s lost more) where
   grown-here : more s ≡ true
@@ -27,8 +27,8 @@ module _ (cl : Cluster) (s : ℕ) (f : Fold) (lost more : ℕ → Bool) (too : I
       let gone : piece more s ≡ 0 = ap (λ v. tally test (cond v [] (delta_facts (f s)))) grown-here in
       let stood : piece lost s ≡ tally test (told_by s f) = ap (λ v. tally test (cond v [] (delta_facts (f s)))) too.outside in
       tally-flat_map test (λ k. cond (lost k) [] (delta_facts (f k))) (nodes_below cl.nodes)
-      ∙ sum_by-one_node (piece more) (piece lost) s (tally test (told_by s f)) cl.nodes inside (omega (arith, gone, stood))
-      (λ k other. ap (λ v. tally test (cond v [] (delta_facts (f k)))) (sym (grown-else k other)))
+      ∙ nodes-point (piece lost) (piece more) s (tally test (told_by s f)) cl.nodes inside
+      (λ k other. ap (λ v. tally test (cond v [] (delta_facts (f k)))) (sym (grown-else k other))) (omega (arith, gone, stood))
       ∙ ap (λ x. x + tally test (told_by s f)) (sym (tally-flat_map test (λ k. cond (more k) [] (delta_facts (f k))) (nodes_below cl.nodes)))
 
   -- a window or Final of a link from the node counts now, and each other counts as it did
@@ -71,7 +71,7 @@ module _ (cl : Cluster) (s : ℕ) (f : Fold) (lost more : ℕ → Bool) (too : I
   admitted-rises : (test : Fact → Bool) → tally test (admitted_facts cl more f) ≡ tally test (admitted_facts cl lost f) + tally test (admitted_from cl s f)
   admitted-rises test =
       tally-flat_map test (λ o. link_facts more (f o)) (nodes_below cl.nodes)
-      ∙ sum_by-split (λ o. tally test (link_facts more (f o))) (λ o. tally test (link_facts lost (f o))) (λ o. tally test (link_facts (λ k. k == s) (f o))) (nodes_below cl.nodes) (λ o. links-rise test (f o))
+      ∙ sum_by-both (λ o. tally test (link_facts more (f o))) (λ o. tally test (link_facts lost (f o))) (λ o. tally test (link_facts (λ k. k == s) (f o))) (nodes_below cl.nodes) (λ o. links-rise test (f o))
       ∙ sym (joined (tally-flat_map test (λ o. link_facts lost (f o)) (nodes_below cl.nodes)) (tally-flat_map test (λ o. link_facts (λ k. k == s) (f o)) (nodes_below cl.nodes)))
     where
       joined : {x y u v : ℕ} → x ≡ u → y ≡ v → x + y ≡ u + v

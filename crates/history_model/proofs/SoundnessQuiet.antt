@@ -21,7 +21,8 @@ use Rattle.history_model.proofs.AccountsBirths.{born-on_node, mail-born, message
 use Rattle.history_model.proofs.AccountsMail.{mail-open, mail-sent}
 use Rattle.history_model.proofs.AccountsNotes.{carries_from, created-noted}
 use Rattle.history_model.proofs.AccountsTaken.{takes-mail, gave-got}
-use Rattle.history_model.proofs.SoundnessSums.{carried-sum, sum_by-member, tally-member}
+use Rattle.history_model.proofs.LinksSums.{sum_by-member}
+use Rattle.history_model.proofs.SoundnessSums.{carried-sum, tally-member}
 use Rattle.history_model.proofs.SoundnessTold.{IsToldSet, AreTold, received-below, released-below}
 use Rattle.history_model.proofs.FoldSumsKnown.{created-names}
 use Rattle.history_model.proofs.SoundnessBounds.{carries_other, counts_other, carried-split, creations-given, mail-split, no_hold, no_take, sendings-sent, taken-carried}

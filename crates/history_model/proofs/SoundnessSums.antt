@@ -50,12 +50,6 @@ module _ {X : Type 0} where
   sum_by-one [] = refl
   sum_by-one (x ∷ xs) = omega (arith, sum_by-one xs, sum_by-cons {X = X} (λ _. 1) x xs)
 
-  -- a sum is no less than what a member weighs
-  pub sum_by-member : (w : X → ℕ) (x : X) (xs : List X) → IsAmong x xs → w x ≤ sum_by w xs
-  sum_by-member w x [] m = absurd m
-  sum_by-member w x (y ∷ ys) (inl e) = omega (arith, sum_by-cons w y ys, ap w e)
-  sum_by-member w x (y ∷ ys) (inr m) = omega (arith, sum_by-cons w y ys, sum_by-member w x ys m)
-
 -- ---- references
 
 -- an actor among the references is counted there

@@ -16,8 +16,7 @@ use Rattle.history_model.specs.Tells.{IsLedgerOf, Tells, origin_of}
 use Rattle.history_model.proofs.Basics.{same_actor-sym}
 use Rattle.history_model.proofs.FoldSumsFlags.{last_flags-append, newer}
 use Rattle.history_model.proofs.Lists.{tally-append}
-use Rattle.history_model.proofs.OneMoreSums.{tally-flat_map}
-use Rattle.history_model.proofs.TellsSums.{sum_by-none, sum_by-same}
+use Rattle.history_model.proofs.LinksSums.{sum_by-none, sum_by-same, tally-flat_map}
 
 -- ---- the facts of a row
 
