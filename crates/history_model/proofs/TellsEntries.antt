@@ -15,11 +15,10 @@ use Rattle.history_model.specs.Tally.{tally}
 use Rattle.history_model.specs.Facts.{Fact, Flags, Note, flagged, is_received, is_released, notes}
 use Rattle.history_model.specs.Graph.{last_flags}
 use Rattle.history_model.specs.Ledgers.{actor_total, entry_ledger, pair_total, received_total, row_flags}
-use Rattle.history_model.specs.Streams.{facts_by, log}
+use Rattle.history_model.specs.Streams.{facts_by, is_flush_of, log}
 use Rattle.history_model.specs.Tells.{AreNotedBy, CountsLog, TellsEntry}
 use Rattle.history_model.proofs.Basics.{same_actor-equal, same_actor-refl, same_actor-sym}
 use Rattle.history_model.proofs.FoldSumsFlags.{log-unflagged}
-use Rattle.history_model.proofs.FoldSumsHorizons.{is_flush_of}
 use Rattle.history_model.proofs.FoldSumsLogs.{log-flushed, log-next}
 use Rattle.history_model.proofs.FoldSumsNotes.{noter-received, noter-released}
 use Rattle.history_model.proofs.Lists.{tally-append}
