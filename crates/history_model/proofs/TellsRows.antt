@@ -1,18 +1,14 @@
 -- Rising rows are determined by their totals: of each key there is at most one row, and what is counted is that row's count.
-use Rattle.std.proofs.Common.{◌≡◌, ◌<◌, ◌&&◌, ℕ, Bool, true, false, cond, List, [], ◌∷◌, sym, ◌∙◌, ap, subst, inl, inr, arith, sum_by}
+use Rattle.std.proofs.Common.{◌≡◌, ◌<◌, ℕ, Bool, true, false, cond, List, [], ◌∷◌, sym, ◌∙◌, ap, subst, inl, inr, arith, sum_by}
 use Rattle.std.proofs.lemmas.Bool.{cases_Bool, cond-true, cond-false}
-use Rattle.std.proofs.lemmas.Bool.Decides.{Decides-and, Decides-like}
 use Rattle.std.proofs.lemmas.List.Sums.{sum_by-cons}
-use Rattle.std.specs.Bool.{Decides}
 use Rattle.std.specs.List.{AllByRecursion}
-use Rattle.crgc_ids.specs.Actor.{Actor, IsActorBelow, IsPairBelow, same_actor}
 use Rattle.crgc_ids.specs.Members.{IsAmong, IsPart}
 use Rattle.crgc_ids.specs.Rising.{IsRising}
-use Rattle.crgc_ids.proofs.ActorLaws.{IsActorBelow-apart, IsActorBelow-trans, IsPairBelow-trans, same_actor-decides}
 use Rattle.crgc_ids.proofs.MembersLaws.{all-member}
 use Rattle.crgc_ids.proofs.RisingLaws.{rising-same}
 use Rattle.history_model.proofs.LinksSums.{sum_by-none, sum_by-some}
-use Rattle.crgc_ids.proofs.KeyOrders.{IsKeyOrder, PairBelow, same_pair}
+use Rattle.crgc_ids.proofs.KeyOrders.{IsKeyOrder}
 
 module _ {K X : Type 0} (below : K → K → Type 0) (same : K → K → Bool) (key : X → K) (order : IsKeyOrder below same) where
   -- how often rows count a key
