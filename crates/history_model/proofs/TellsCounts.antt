@@ -1,12 +1,12 @@
 -- Counts that are alike, and what joined rows and joined facts count: what both count.
 use Rattle.std.proofs.Common.{◌≡◌, ◌+◌, ◌&&◌, true, false, cond, List, [], ◌∷◌, ◌++◌, refl, sym, ◌∙◌, ap, ap₂}
 use Rattle.std.proofs.lemmas.List.Sums.{sum_by-append}
-use Rattle.std.specs.Prelude.{Option, Some, None, unwrap_or}
+use Rattle.std.specs.Prelude.{Some, unwrap_or}
 use Rattle.crgc_ids.specs.Actor.{Actor, same_actor}
 use Rattle.history_model.specs.declared.records.StateRow.{StateRow}
 use Rattle.history_model.specs.Facts.{Fact, Flags, is_received, is_sent_to, is_created, is_released}
 use Rattle.history_model.specs.Ledgers.{Counts, CountAlike, Ledger, fact_counts, joined, ledger_counts, row_flags}
-use Rattle.history_model.proofs.FoldSumsFlags.{last_flags-append, newer}
+use Rattle.history_model.proofs.FoldSumsFlags.{last_flags-append, newer, newer-none, newer-unwrap}
 use Rattle.history_model.proofs.Lists.{tally-append}
 
 -- ---- alike
@@ -72,21 +72,13 @@ facts-both xs ys = record {
 -- joined rows of states
 row_flags-append : (a : Actor) (xs ys : List StateRow) → row_flags a (xs ++ ys) ≡ newer (row_flags a xs) (row_flags a ys)
 row_flags-append a [] ys = newer-none (row_flags a ys)
-  where
-    newer-none : (y : Option Flags) → y ≡ newer None y
-    newer-none None = refl
-    newer-none (Some g) = refl
 row_flags-append a (r ∷ xs) ys =
     let g : Flags = record { busy = r.busy; root = r.root } in
     let later = row_flags-append a xs ys in
     elim (same_actor a r.actor) as (λ v. cond v (Some (unwrap_or (row_flags a (xs ++ ys)) g)) (row_flags a (xs ++ ys)) ≡ newer (cond v (Some (unwrap_or (row_flags a xs) g)) (row_flags a xs)) (row_flags a ys)) [
-      | true ↦ ap (λ f. Some (unwrap_or f g)) later ∙ unwrapped (row_flags a xs) (row_flags a ys) g
+      | true ↦ ap (λ f. Some (unwrap_or f g)) later ∙ newer-unwrap (row_flags a xs) (row_flags a ys) g
       | false ↦ later
     ]
-  where
-    unwrapped : (x y : Option Flags) (g : Flags) → Some (unwrap_or (newer x y) g) ≡ newer (Some (unwrap_or x g)) y
-    unwrapped x None g = refl
-    unwrapped x (Some f) g = refl
 
 -- joined rows
 pub rows-both : (l m : Ledger) → CountAlike (ledger_counts (joined l m)) (both (ledger_counts l) (ledger_counts m))

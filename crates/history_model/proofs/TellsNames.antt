@@ -19,6 +19,7 @@ use Rattle.history_model.proofs.Lists.{IsAmong-flat_map, IsAmong-from_flat_map, 
 use Rattle.history_model.proofs.TellsRows.{total-some}
 use Rattle.history_model.proofs.LinksSums.{sum_by-positive}
 use Rattle.crgc_ids.proofs.KeyOrders.{actor_order, pair_order}
+use Rattle.history_model.proofs.FoldSumsFlags.{last_flags-named}
 
 -- some count of a is not 0, or a has flags
 pub data IsNamed (c : Counts) (a : Actor) : Type 0 where
@@ -68,17 +69,6 @@ last_flags-member a g (created b c ∷ rest) (inr m) = last_flags-member a g res
 last_flags-member a g (released b c ∷ rest) (inl e) = absurd (cc)
 last_flags-member a g (released b c ∷ rest) (inr m) = last_flags-member a g rest m
 
-last_flags-some : (a : Actor) (facts : List Fact) (g : Flags) → last_flags a facts ≡ Some g → (x : Fact) × IsAmong x facts × (names a x ≡ true)
-last_flags-some a [] g e = absurd (cc)
-last_flags-some a (flagged b f ∷ rest) g e =
-    let later : last_flags a rest ≡ Some g → (x : Fact) × IsAmong x (flagged b f ∷ rest) × (names a x ≡ true) =
-    λ k. (let found = last_flags-some a rest g k in (found.0, inr found.1, found.2)) in
-    let Found : Bool → Type 0 = λ v. same_actor b a ≡ v → cond v (Some (unwrap_or (last_flags a rest) f)) (last_flags a rest) ≡ Some g
-    → (x : Fact) × IsAmong x (flagged b f ∷ rest) × (names a x ≡ true) in
-    let found : Found (same_actor b a) = elim (same_actor b a) as Found [ true ↦ λ t _. (flagged b f, inl refl, t) | false ↦ λ _ k. later k ] in
-    found refl e
-last_flags-some a (x ∷ rest) g e = (let found = last_flags-some a rest g e in (found.0, inr found.1, found.2))
-
 -- an actor that one of the facts names is counted
 fact-counted : (a : Actor) (facts : List Fact) (x : Fact) → IsAmong x facts → IsAmong a (named_by x) → IsNamed (fact_counts facts) a
 fact-counted a facts (received b) m (inl e) = takes (tally-member (is_received a) (received b) facts m (subst (λ c. same_actor b c ≡ true) (sym e) (same_actor-refl b)))
@@ -123,7 +113,7 @@ module _ (a : Actor) (facts : List Fact) where
   counted-fact : IsNamed (fact_counts facts) a → IsAmong a (flat_map named_by facts)
   counted-fact (takes l) = counted-by (is_received a) (received-names a) l
   counted-fact (is_flushed g e) =
-      (let found = last_flags-some a facts g e in
+      (let found = last_flags-named a facts g e in
       IsAmong-flat_map named_by a found.0 facts found.1 ((names-among a found.0).0 found.2))
   counted-fact (is_sent l) = counted-by (is_sent_to a) (sent-names a) l
   counted-fact (is_owner x l) = counted-by (is_created a x) (λ y t. (names-among a y).0 (created-names a x y t).0) l

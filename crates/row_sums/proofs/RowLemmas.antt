@@ -1,12 +1,10 @@
 -- Rows that count actors, and rows that count pairs, as they are sorted and added up.
-use Rattle.std.proofs.Common.{◌≡◌, ◌⊎◌, ◌+◌, ◌&&◌, ℕ, Bool, true, false, cond, min, Ordering, sym, ◌∙◌, ap, inl, inr, arith}
+use Rattle.std.proofs.Common.{◌≡◌, ◌⊎◌, ◌+◌, ℕ, Bool, true, false, cond, min, Ordering, sym, ◌∙◌, ap, inl, inr, arith}
 use Rattle.std.proofs.lemmas.Bool.{false≢true}
-use Rattle.std.proofs.lemmas.Bool.Decides.{Decides-and, Decides-like}
 use Rattle.std.specs.Ordering.{MatchOrdering, is_lt, nat_cmp, ordering_then}
 use Rattle.std.specs.declared.cmp.Ordering.TheVariants.{Equal, Greater, Less}
-use Rattle.crgc_ids.proofs.ActorLaws.{IsActorBelow-trans, IsPairBelow-trans, same_actor-decides}
 use Rattle.crgc_ids.proofs.ActorOrder.{actor_cmp, actor_cmp-tells}
-use Rattle.crgc_ids.specs.Actor.{Actor, IsActorBelow, IsPairBelow, same_actor}
+use Rattle.crgc_ids.specs.Actor.{Actor, IsActorBelow}
 use Rattle.crgc_ids.specs.declared.rising.ActorCount.{ActorCount}
 use Rattle.crgc_ids.specs.declared.rising.PairCount.{PairCount}
 use Rattle.row_sums.proofs.SumLemmas.{AtMost, TakesIn}
