@@ -60,5 +60,5 @@ pub mod OneMoreBulletin
 pub mod OneMoreLost
 pub mod LiveCounts
 pub mod ExamplesTests
-pub mod Examples
-pub mod ExamplesEvents
+mod Examples
+mod ExamplesEvents
