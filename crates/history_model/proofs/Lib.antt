@@ -59,5 +59,5 @@ pub mod OneMoreBulletin
 pub mod OneMoreLost
 pub mod LiveCounts
 pub mod ExamplesTests
-pub mod Examples
-pub mod ExamplesEvents
+mod Examples
+mod ExamplesEvents
