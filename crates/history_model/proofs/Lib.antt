@@ -62,3 +62,4 @@ pub mod LiveCounts
 pub mod ExamplesTests
 pub mod Examples
 pub mod ExamplesEvents
+pub mod TellsExamples
