@@ -61,3 +61,4 @@ pub mod LiveCounts
 pub mod ExamplesTests
 mod Examples
 mod ExamplesEvents
+mod TellsExamples
