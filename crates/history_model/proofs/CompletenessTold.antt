@@ -130,7 +130,7 @@ told-within cl u t h all q [] parts = refl
 told-within cl u t h all q (e ∷ p) parts =
     told-next cl u t e p (λ x. all q e p x parts) (told-within cl u t h all (q ++ e ∷ []) p (parts ∙ sym (append_assoc q (e ∷ []) p)))
 
-blank-empty : (xs : List Fact) → is_blank xs ≡ true → xs ≡ []
+pub blank-empty : (xs : List Fact) → is_blank xs ≡ true → xs ≡ []
 blank-empty [] blank = refl
 blank-empty (x ∷ xs) blank = absurd (false≢true blank)
 

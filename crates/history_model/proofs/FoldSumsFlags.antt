@@ -70,7 +70,7 @@ facts_by-unflagged a b (x ∷ ns) plain =
     ]
 
 -- a log has no flags
-log-unflagged : (cl : Cluster) (a b : Actor) (h : List Event) → last_flags a (log cl b h) ≡ None
+pub log-unflagged : (cl : Cluster) (a b : Actor) (h : List Event) → last_flags a (log cl b h) ≡ None
 log-unflagged cl a b [] = refl
 log-unflagged cl a b (e ∷ p) =
     let unflagged = notes-kinds (λ x. is_flagged a x.fact ≡ false) (λ _ _. refl) (λ _ _ _. refl) (λ _. refl) (λ _ _. refl) cl e p in

@@ -1,5 +1,5 @@
 -- What one more bulletin changes: its facts count where it is folded, and nothing else does.
-use Rattle.std.proofs.Common.{◌≡◌, ◌≢◌, ◌<◌, ◌+◌, ◌⊎◌, ◌↔◌, ◌==◌, ℕ, zero, suc, Bool, true, false, cond, List, [], ◌∷◌, ◌++◌, flat_map, take, refl, sym, ◌∙◌, ap, subst, inl, inr, arith, append_assoc, append-nil, slice_get}
+use Rattle.std.proofs.Common.{◌≡◌, ◌≢◌, ◌<◌, ◌+◌, ◌⊎◌, ◌↔◌, ◌==◌, ℕ, zero, suc, Bool, true, false, cond, List, [], ◌∷◌, ◌++◌, flat_map, take, refl, sym, ◌∙◌, ap, subst, inl, inr, arith, append-nil, slice_get}
 use Rattle.std.proofs.lemmas.Bool.{cases_Bool, cond-true, cond-false, eqb-true, ne_eqb}
 use Rattle.std.specs.Prelude.{Option, Some, None}
 use Rattle.std.specs.Option.{option_or}
@@ -27,10 +27,10 @@ use Rattle.history_model.proofs.Basics.{eqb-refl}
 use Rattle.history_model.proofs.FoldSumsFlags.{last_flags-append, newer}
 use Rattle.history_model.proofs.FoldSumsKnown.{known-named, names-among}
 use Rattle.history_model.proofs.LinksSettled.{final_links-from, final_links-member}
+use Rattle.history_model.proofs.JoinedBulletins.{delta_facts-append, link_facts-append, links_into-append, notice_facts-append}
 use Rattle.history_model.proofs.Lists.{IsAmong-flat_map, IsAmong-from_flat_map, tally-append}
 use Rattle.history_model.proofs.TellsBulletins.{ledger-named, no_entries-tell, tells-counts}
 use Rattle.history_model.proofs.LinksSums.{nodes-point, tally-flat_map}
-use Rattle.history_model.proofs.LinksWindows.{link_facts-append}
 
 -- ---- the bulletins of one node with one more
 
@@ -40,39 +40,35 @@ with_notice-here o n f = cond-true (o == o) (f o ++ n ∷ []) (f o) (eqb-refl o)
 with_notice-else : (o k : ℕ) (n : Notice) (f : Fold) → k ≢ o → with_notice o n f k ≡ f k
 with_notice-else o k n f other = cond-false (k == o) (f k ++ n ∷ []) (f k) (ne_eqb k o other)
 
-delta_facts-push : (xs : List Notice) (n : Notice) → delta_facts (xs ++ n ∷ []) ≡ delta_facts xs ++ own_part n
-delta_facts-push [] (delta facts) = append-nil facts
-delta_facts-push [] (window_of s facts) = refl
-delta_facts-push [] (final_of s facts) = refl
-delta_facts-push (delta facts ∷ xs) n = ap (λ ys. facts ++ ys) (delta_facts-push xs n) ∙ sym (append_assoc facts (delta_facts xs) (own_part n))
-delta_facts-push (window_of s facts ∷ xs) n = delta_facts-push xs n
-delta_facts-push (final_of s facts ∷ xs) n = delta_facts-push xs n
+-- what one bulletin tells, as a list of one
+own_part-alone : (n : Notice) → delta_facts (n ∷ []) ≡ own_part n
+own_part-alone (delta facts) = append-nil facts
+own_part-alone (window_of s facts) = refl
+own_part-alone (final_of s facts) = refl
 
 put_alone : (v : Bool) (facts : List Fact) → cond v (facts ++ []) [] ≡ cond v facts []
 put_alone true facts = append-nil facts
 put_alone false facts = refl
 
-link_facts-one : (lost : ℕ → Bool) (n : Notice) → link_facts lost (n ∷ []) ≡ link_part lost n
-link_facts-one lost (delta facts) = refl
-link_facts-one lost (window_of s facts) = put_alone (lost s) facts
-link_facts-one lost (final_of s facts) = put_alone (lost s) facts
+link_part-alone : (lost : ℕ → Bool) (n : Notice) → link_facts lost (n ∷ []) ≡ link_part lost n
+link_part-alone lost (delta facts) = refl
+link_part-alone lost (window_of s facts) = put_alone (lost s) facts
+link_part-alone lost (final_of s facts) = put_alone (lost s) facts
+
+facts_in-alone : (n : Notice) → notice_facts (n ∷ []) ≡ facts_in n
+facts_in-alone (delta facts) = append-nil facts
+facts_in-alone (window_of s facts) = append-nil facts
+facts_in-alone (final_of s facts) = append-nil facts
+
+-- and what the bulletins tell with one more
+delta_facts-push : (xs : List Notice) (n : Notice) → delta_facts (xs ++ n ∷ []) ≡ delta_facts xs ++ own_part n
+delta_facts-push xs n = delta_facts-append xs (n ∷ []) ∙ ap (λ ys. delta_facts xs ++ ys) (own_part-alone n)
 
 link_facts-push : (lost : ℕ → Bool) (xs : List Notice) (n : Notice) → link_facts lost (xs ++ n ∷ []) ≡ link_facts lost xs ++ link_part lost n
-link_facts-push lost xs n = link_facts-append lost xs (n ∷ []) ∙ ap (λ facts. link_facts lost xs ++ facts) (link_facts-one lost n)
+link_facts-push lost xs n = link_facts-append lost xs (n ∷ []) ∙ ap (λ ys. link_facts lost xs ++ ys) (link_part-alone lost n)
 
 notice_facts-push : (xs : List Notice) (n : Notice) → notice_facts (xs ++ n ∷ []) ≡ notice_facts xs ++ facts_in n
-notice_facts-push [] (delta facts) = append-nil facts
-notice_facts-push [] (window_of s facts) = append-nil facts
-notice_facts-push [] (final_of s facts) = append-nil facts
-notice_facts-push (delta facts ∷ xs) n = ap (λ ys. facts ++ ys) (notice_facts-push xs n) ∙ sym (append_assoc facts (notice_facts xs) (facts_in n))
-notice_facts-push (window_of s facts ∷ xs) n = ap (λ ys. facts ++ ys) (notice_facts-push xs n) ∙ sym (append_assoc facts (notice_facts xs) (facts_in n))
-notice_facts-push (final_of s facts ∷ xs) n = ap (λ ys. facts ++ ys) (notice_facts-push xs n) ∙ sym (append_assoc facts (notice_facts xs) (facts_in n))
-
-links_into-push : (d : ℕ) (xs : List Notice) (n : Notice) → links_into d (xs ++ n ∷ []) ≡ links_into d xs ++ links_into d (n ∷ [])
-links_into-push d [] n = refl
-links_into-push d (delta facts ∷ xs) n = links_into-push d xs n
-links_into-push d (window_of s facts ∷ xs) n = links_into-push d xs n
-links_into-push d (final_of s facts ∷ xs) n = ap (λ ys. (s, d) ∷ ys) (links_into-push d xs n)
+notice_facts-push xs n = notice_facts-append xs (n ∷ []) ∙ ap (λ ys. notice_facts xs ++ ys) (facts_in-alone n)
 
 -- ---- counts
 
@@ -155,7 +151,7 @@ module _ (cl : Cluster) (o : ℕ) (n : Notice) (f : Fold) (inside : o < cl.nodes
 
   finals-more : (s d : ℕ) → IsAmong (s, d) (final_links cl (with_notice o n f)) ↔ (IsAmong (s, d) (final_links cl f) ⊎ IsAmong (s, d) (links_into o (n ∷ [])))
   finals-more s d =
-      let all : links_into o (with_notice o n f o) ≡ links_into o (f o) ++ links_into o (n ∷ []) = ap (links_into o) (with_notice-here o n f) ∙ links_into-push o (f o) n in (
+      let all : links_into o (with_notice o n f o) ≡ links_into o (f o) ++ links_into o (n ∷ []) = ap (links_into o) (with_notice-here o n f) ∙ links_into-append o (f o) (n ∷ []) in (
         λ h.
             let found = final_links-from cl (with_notice o n f) s d h in
             elim (cases_Bool (d == o)) [

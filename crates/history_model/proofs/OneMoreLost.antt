@@ -11,8 +11,7 @@ use Rattle.history_model.specs.Graph.{admitted_facts, delta_facts, link_facts, t
 use Rattle.history_model.specs.MoreFolded.{IsLostToo, MovesCounts, admitted_from, told_by}
 use Rattle.history_model.proofs.Basics.{eqb-refl}
 use Rattle.history_model.proofs.Lists.{tally-append}
-use Rattle.history_model.proofs.LinksSums.{nodes-point, tally-flat_map}
-use Rattle.history_model.proofs.TellsSums.{sum_by-split}
+use Rattle.history_model.proofs.LinksSums.{nodes-point, sum_by-both, tally-flat_map}
 
 module _ (cl : Cluster) (s : ℕ) (f : Fold) (lost more : ℕ → Bool) (too : IsLostToo s lost more) where
   grown-here : more s ≡ true
@@ -72,7 +71,7 @@ module _ (cl : Cluster) (s : ℕ) (f : Fold) (lost more : ℕ → Bool) (too : I
   admitted-rises : (test : Fact → Bool) → tally test (admitted_facts cl more f) ≡ tally test (admitted_facts cl lost f) + tally test (admitted_from cl s f)
   admitted-rises test =
       tally-flat_map test (λ o. link_facts more (f o)) (nodes_below cl.nodes)
-      ∙ sum_by-split (λ o. tally test (link_facts more (f o))) (λ o. tally test (link_facts lost (f o))) (λ o. tally test (link_facts (λ k. k == s) (f o))) (nodes_below cl.nodes) (λ o. links-rise test (f o))
+      ∙ sum_by-both (λ o. tally test (link_facts more (f o))) (λ o. tally test (link_facts lost (f o))) (λ o. tally test (link_facts (λ k. k == s) (f o))) (nodes_below cl.nodes) (λ o. links-rise test (f o))
       ∙ sym (joined (tally-flat_map test (λ o. link_facts lost (f o)) (nodes_below cl.nodes)) (tally-flat_map test (λ o. link_facts (λ k. k == s) (f o)) (nodes_below cl.nodes)))
     where
       joined : {x y u v : ℕ} → x ≡ u → y ≡ v → x + y ≡ u + v

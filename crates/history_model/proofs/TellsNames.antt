@@ -17,7 +17,7 @@ use Rattle.history_model.proofs.Basics.{same_actor-equal, same_actor-refl}
 use Rattle.history_model.proofs.FoldSumsKnown.{created-names, names-among}
 use Rattle.history_model.proofs.Lists.{IsAmong-flat_map, IsAmong-from_flat_map, tally-some}
 use Rattle.history_model.proofs.TellsRows.{total-some}
-use Rattle.history_model.proofs.TellsSums.{sum_by-member}
+use Rattle.history_model.proofs.LinksSums.{sum_by-positive}
 use Rattle.crgc_ids.proofs.KeyOrders.{actor_order, pair_order}
 use Rattle.history_model.proofs.FoldSumsFlags.{last_flags-named}
 
@@ -42,7 +42,7 @@ named-alike c d alike a (is_given_up x l) = is_given_up x (omega (arith, l, alik
 
 -- ---- facts
 
-tally-member : {X : Type 0} (test : X → Bool) (x : X) (xs : List X) → IsAmong x xs → test x ≡ true → 0 < tally test xs
+pub tally-member : {X : Type 0} (test : X → Bool) (x : X) (xs : List X) → IsAmong x xs → test x ≡ true → 0 < tally test xs
 tally-member test x [] m t = absurd m
 tally-member test x (y ∷ ys) (inl e) t = subst (λ v. 0 < cond v (tally test ys + 1) (tally test ys)) (sym (ap test (sym e) ∙ t)) (omega arith)
 tally-member test x (y ∷ ys) (inr m) t =
@@ -176,12 +176,12 @@ key-among key a (y ∷ ys) (inr m) = (let found = key-among key a ys m in (found
 -- a row that does not count 0 counts its actor, or its pair
 actor-counted : (r : ActorCount) (rows : List ActorCount) → IsAmong r rows → AllByRecursion (λ x. 0 < x.count) rows → 0 < actor_total r.actor rows
 actor-counted r rows m stand =
-    sum_by-member (λ x. cond (same_actor r.actor x.actor) x.count 0) r rows m
+    sum_by-positive (λ x. cond (same_actor r.actor x.actor) x.count 0) r rows m
     (subst (λ n. 0 < n) (sym (cond-true (same_actor r.actor r.actor) r.count 0 (same_actor-refl r.actor))) (all-member (λ x. 0 < x.count) r rows stand m))
 
 pair-counted : (r : PairCount) (rows : List PairCount) → IsAmong r rows → AllByRecursion (λ x. 0 < x.count) rows → 0 < pair_total r.owner r.target rows
 pair-counted r rows m stand =
-    sum_by-member (λ x. cond (same_actor r.owner x.owner && same_actor r.target x.target) x.count 0) r rows m
+    sum_by-positive (λ x. cond (same_actor r.owner x.owner && same_actor r.target x.target) x.count 0) r rows m
     (subst (λ n. 0 < n)
     (sym (cond-true (same_actor r.owner r.owner && same_actor r.target r.target) r.count 0 (and_from (same_actor r.owner r.owner) (same_actor r.target r.target) (same_actor-refl r.owner) (same_actor-refl r.target))))
     (all-member (λ x. 0 < x.count) r rows stand m))

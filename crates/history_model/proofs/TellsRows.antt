@@ -7,9 +7,8 @@ use Rattle.crgc_ids.specs.Members.{IsAmong, IsPart}
 use Rattle.crgc_ids.specs.Rising.{IsRising}
 use Rattle.crgc_ids.proofs.MembersLaws.{all-member}
 use Rattle.crgc_ids.proofs.RisingLaws.{rising-same}
-use Rattle.history_model.proofs.TellsSums.{sum_by-some}
+use Rattle.history_model.proofs.LinksSums.{sum_by-none, sum_by-some}
 use Rattle.crgc_ids.proofs.KeyOrders.{IsKeyOrder}
-use Rattle.history_model.proofs.LinksSums.{sum_by-none}
 
 module _ {K X : Type 0} (below : K → K → Type 0) (same : K → K → Bool) (key : X → K) (order : IsKeyOrder below same) where
   -- how often rows count a key

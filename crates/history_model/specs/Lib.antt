@@ -19,3 +19,4 @@ pub mod Rows
 pub mod Ledgers
 pub mod Tells
 pub mod MoreFolded
+pub mod Live

@@ -1,5 +1,5 @@
 -- What bulletins and entries tell: how the records that are written, read and kept stand to the facts of a history.
-use Rattle.std.specs.Prelude.{◌≡◌, ◌==◌, ◌&&◌, ◌++◌, if◌then◌else◌, ℕ, List, [], ◌∷◌, count_by, map}
+use Rattle.std.specs.Prelude.{◌≡◌, ◌≢◌, ◌==◌, ◌&&◌, ◌++◌, if◌then◌else◌, ℕ, List, [], ◌∷◌, None, count_by, map}
 use Rattle.std.specs.List.{flat_map}
 use Rattle.crgc_ids.specs.Actor.{Actor, same_actor}
 use Rattle.history_model.specs.declared.records.Bulletin.{Bulletin}
@@ -9,9 +9,10 @@ use Rattle.history_model.specs.declared.records.Entry.{Entry}
 use Rattle.history_model.specs.declared.records.Window as windows
 use Rattle.history_model.specs.declared.events.Event.{Event}
 use Rattle.history_model.specs.declared.events.Event.TheVariants.{Admit, Remove, Window}
-use Rattle.history_model.specs.Facts.{Fact}
+use Rattle.history_model.specs.Tally.{tally}
+use Rattle.history_model.specs.Facts.{Fact, Flags, is_created, is_received, is_released, is_sent_to}
 use Rattle.history_model.specs.Messages.{Message, admitted_by}
-use Rattle.history_model.specs.Graph.{named_by}
+use Rattle.history_model.specs.Graph.{last_flags, named_by}
 use Rattle.history_model.specs.Streams.{Notice, delta, window_of, final_of}
 use Rattle.history_model.specs.Ledgers.{CountAlike, IsInOrder, Ledger, actor_total, fact_counts, ledger_counts, pair_total}
 use Rattle.history_model.specs.Ledgers.{delta_ledger, entries_ledger, entry_ledger, window_ledger}
@@ -64,6 +65,22 @@ Tells o b n = ⊥
 -- the entry is a's, and its rows count what the facts say
 abbrev pub TellsEntry : Actor → Entry → List Fact → Type 0
 TellsEntry a e facts = (e.actor ≡ a) × IsLedgerOf facts (entry_ledger e)
+
+-- the facts are such as an actor notes: of what it took and gave up itself, and of no flags
+pub record AreNotedBy (a : Actor) (facts : List Fact) : Type 0 where
+  pub received : (b : Actor) → b ≢ a → tally (is_received b) facts ≡ 0
+  pub released : (b t : Actor) → b ≢ a → tally (is_released b t) facts ≡ 0
+  pub flags : (b : Actor) → last_flags b facts ≡ None
+
+-- the entry is a's, with these flags, and counts the facts of its log
+pub record CountsLog (a : Actor) (e : Entry) (g : Flags) (facts : List Fact) : Type 0 where
+  pub actor : e.actor ≡ a
+  pub busy : e.busy ≡ g.busy
+  pub root : e.root ≡ g.root
+  pub received : e.received ≡ tally (is_received a) facts
+  pub sent : (t : Actor) → actor_total t e.sent ≡ tally (is_sent_to t) facts
+  pub created : (b t : Actor) → pair_total b t e.created ≡ tally (is_created b t) facts
+  pub released : (t : Actor) → actor_total t e.released ≡ tally (is_released a t) facts
 
 -- all the entries, one after another, count what the facts say
 abbrev pub TellEntries : List Entry → List Fact → Type 0

@@ -10,15 +10,16 @@ ghost use Rattle.history_model.specs.declared.records.Delta.{Delta};
 ghost use Rattle.history_model.specs.declared.records.Entry.{Entry};
 ghost use Rattle.history_model.specs.declared.records.Window.{Window};
 ghost use Rattle.history_model.specs.Cluster.{Cluster};
-ghost use Rattle.history_model.specs.Facts.{Fact, message_facts};
+ghost use Rattle.history_model.specs.Facts.{Fact, Flags, flagged, message_facts};
 ghost use Rattle.history_model.specs.Folds.{Fold, lost_of};
 ghost use Rattle.history_model.specs.Graph.{rising_actors};
 ghost use Rattle.history_model.specs.Ledgers.{CountAlike, CountFromOne, IsInOrder, Ledger, ledger_counts, ledger_names, window_ledger};
 ghost use Rattle.history_model.specs.Messages.{Message};
 ghost use Rattle.history_model.specs.MoreFolded.{AreLinksOf, CountsNotice, FoldsNext, IsLostToo, IsNext, KnowsNotice, KnowsRows, MovesCounts};
 ghost use Rattle.history_model.specs.MoreFolded.{link_part, link_rows, own_part, own_rows, told_by, with_notice};
-ghost use Rattle.history_model.specs.Streams.{Notice, window};
-ghost use Rattle.history_model.specs.Tells.{CountsMessages, IsDeltaOf, IsLedgerOf, IsOrdered, TellEntries, Tells, TellsDelta, TellsEntry};
+ghost use Rattle.history_model.specs.Streams.{Notice, log, window};
+ghost use Rattle.history_model.specs.Tells.{AreNotedBy, CountsLog, CountsMessages, IsDeltaOf, IsLedgerOf, IsOrdered};
+ghost use Rattle.history_model.specs.Tells.{TellEntries, Tells, TellsDelta, TellsEntry};
 ghost use Rattle.history_model.specs.Tells.{admitted_since, bulletin_ledger, fact_names, facts_in, origin_of};
 
 /// Rows that rise and of which none counts 0 are determined by what they count: so only one bulletin tells a notice.
@@ -35,6 +36,12 @@ pub fn each_bulletin_tells_a_notice()
 /// Rows that count what facts say, none of them 0, name the same actors.
 pub fn rows_name_whom_facts_name()
     ensures { (xs : List Fact) (l : Ledger) → CountFromOne l → IsLedgerOf xs l → rising_actors (ledger_names l) ≡ rising_actors (fact_names xs) }
+{}
+
+/// What stands in an actor's log is what it took and gave up itself, so an entry that counts the log tells it.
+pub fn an_entry_tells_a_log()
+    ensures logs { (cl : Cluster) (a : Actor) (h : List Event) → AreNotedBy a (log cl a h) }
+    ensures entry { (a : Actor) (e : Entry) (g : Flags) (xs : List Fact) → AreNotedBy a xs → CountsLog a e g xs → TellsEntry a e (flagged a g ∷ xs) }
 {}
 
 /// Entries one after another tell what their facts say one after another, and so does the Delta that is their sum.

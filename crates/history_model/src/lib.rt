@@ -6,6 +6,7 @@ pub mod compaction;
 mod events;
 mod history;
 pub mod laws;
+pub mod live_laws;
 mod records;
 
 pub use events::{Event, Rule};
