@@ -253,7 +253,7 @@ quiet_point-test cl m h legal_test test =
     and_parts (is_blank (queue cl n h)) (cut_at cl m h n == length (stream cl n h)) (second (is_up n h) (is_told cl m h n) either up) in
     record {
       up = one.0;
-      removed = λ n k from to down up.
+      closed = λ n k from to down up.
           let either = link-true cl removals n k two.0 from to in
           second (is_up k h) (is_closed n k h) (rw down at either) up;
       flushed = λ a born up.

@@ -50,7 +50,7 @@ LosesNothing h = (s d k : ℕ) → s ≢ d → IsTrue (is_up s h) → IsTrue (is
 -- nothing is left to tell at node m
 pub record IsQuietPoint (cl : Cluster) (m : ℕ) (h : List Event) : Type 0 where
   pub up : IsTrue (is_up m h)
-  pub removed : (n k : ℕ) → n < cl.nodes → k < cl.nodes → IsFalse (is_up n h) → IsTrue (is_up k h) → IsTrue (is_closed n k h)
+  pub closed : (n k : ℕ) → n < cl.nodes → k < cl.nodes → IsFalse (is_up n h) → IsTrue (is_up k h) → IsTrue (is_closed n k h)
   pub flushed : (a : Actor) → IsTrue (is_born a h) → IsTrue (is_up a.node h) → IsFalse (can_flush cl a h)
   pub published : (n : ℕ) → IsTrue (is_up n h) → queue cl n h ≡ []
   pub folded : (n : ℕ) → n < cl.nodes → IsTrue (is_up n h) → cut_at cl m h n ≡ length (stream cl n h)
