@@ -4,7 +4,7 @@ use Rattle.std.specs.Prelude.{◌≡◌, ◌⊎◌, IsFalse, flat_map, List, [],
 use Rattle.crgc_ids.specs.Actor.{Actor}
 use Rattle.crgc_ids.specs.Members.{IsAmong}
 use Rattle.history_model.specs.declared.events.Event.{Event}
-use Rattle.history_model.specs.declared.events.Event.TheVariants.{Seed, Tie, Wake, Take, Spawn, Send, Drop, Retire, Rest, Flush}
+use Rattle.history_model.specs.declared.events.Event.TheVariants.{Seed, Tie, Wake, Take, Spawn, Send, Drop, Retire, Rest, Flush, Publish, Window, Admit, Lose, Repeat, Crash, Remove, Hand, Sweep}
 use Rattle.history_model.specs.Cluster.{Cluster, newborn}
 use Rattle.history_model.specs.Messages.{Message, admitted_by, waiting}
 use Rattle.history_model.specs.Held.{held}
@@ -13,7 +13,7 @@ use Rattle.history_model.specs.Legal.{IsLegal}
 use Rattle.history_model.specs.Quiescent.{IsLive}
 
 -- the actors that the event is of: who is born, acts or is flushed, and to whom a reference is tied, used, carried or given
--- up. The other forms are of nodes, links and bulletins
+-- up. The last nine forms are of nodes, links and bulletins
 abbrev pub actors_in : Event → List Event → List Actor
 actors_in (Seed n) p = newborn n p ∷ []
 actors_in (Tie o t) p = o ∷ t ∷ []
@@ -25,14 +25,22 @@ actors_in (Drop a t) p = a ∷ t ∷ []
 actors_in (Retire a) p = a ∷ []
 actors_in (Rest a) p = a ∷ []
 actors_in (Flush a) p = a ∷ []
-actors_in _ p = []
+actors_in (Publish n) p = []
+actors_in (Window d s) p = []
+actors_in (Admit s d k) p = []
+actors_in (Lose s d k) p = []
+actors_in (Repeat s d k) p = []
+actors_in (Crash n) p = []
+actors_in (Remove m n) p = []
+actors_in (Hand m o k) p = []
+actors_in (Sweep m) p = []
 
--- the message that the event sends
+-- the message that the event sends; only a send sends one
 abbrev pub sent_by : Event → List Message
 sent_by (Send f t refs) = record { from = f; to = t; refs = refs } ∷ []
 sent_by _ = []
 
--- the message that the event takes
+-- the message that the event takes; only a take takes one
 abbrev pub taken_by : Event → List Event → List Message
 taken_by (Take a) p = take 1 (waiting a p)
 taken_by _ p = []
