@@ -1,6 +1,6 @@
 -- Tests of quiet sets and quiet points that compute, and that what passes them is one. The moments of `Examples` are shown
 -- by them.
-use Rattle.std.proofs.Common.{◌≡◌, ◌≢◌, ◌<◌, ◌≤◌, ◌&&◌, ◌||◌, ◌==◌, ℕ, zero, suc, Bool, true, false, not, if◌then◌else◌, cond, nat_lt, List, [], ◌∷◌, ◌++◌, length, map, slice_get, option_to_list, is_none, Option, Some, None, flat_map, refl, sym, ◌∙◌, ap, subst, inl, inr, arith, IsTrue, IsFalse}
+use Rattle.std.proofs.Common.{◌≡◌, ◌≢◌, ◌<◌, ◌≤◌, ◌&&◌, ◌||◌, ◌==◌, ℕ, Bool, true, false, not, if◌then◌else◌, cond, nat_lt, List, [], ◌∷◌, ◌++◌, length, is_none, Option, Some, None, flat_map, refl, sym, ◌∙◌, ap, subst, inl, inr, arith, IsTrue, IsFalse}
 use Rattle.std.proofs.lemmas.Bool.{and_parts, cases_lt, eqb-true, false≢true, lt-ltb, ltb-true, ne_eqb, not-true, or_cases}
 use Rattle.std.specs.List.{list_all, list_any}
 use Rattle.crgc_ids.specs.Actor.{Actor}
@@ -9,7 +9,7 @@ use Rattle.crgc_ids.specs.Nodes.{nodes_below}
 use Rattle.crgc_ids.proofs.MembersLaws.{IsAmong-append_left, IsAmong-append_right, IsAmong-range, list_all-true, list_any-member}
 use Rattle.history_model.specs.declared.events.Event.{Event}
 use Rattle.history_model.specs.declared.events.Event.TheVariants.{Flush, Publish}
-use Rattle.history_model.specs.Cluster.{Cluster, births, is_born}
+use Rattle.history_model.specs.Cluster.{Cluster, is_born}
 use Rattle.history_model.specs.Messages.{Message, sent, message_at, waiting, was_admitted, copies, is_closed}
 use Rattle.history_model.specs.Held.{held}
 use Rattle.history_model.specs.State.{is_busy, is_root, is_up}
@@ -18,12 +18,14 @@ use Rattle.history_model.specs.Folds.{cut_at}
 use Rattle.history_model.specs.Graph.{holds_actor}
 use Rattle.history_model.specs.Legal.{refusal, IsLegal}
 use Rattle.history_model.specs.Quiescent.{IsOnLink, IsLive, IsQuietSet, IsQuietPoint}
-use Rattle.history_model.specs.Rows.{actor, is_legal}
+use Rattle.history_model.specs.Live.{actors_of, is_under_way}
+use Rattle.history_model.specs.Rows.{is_legal}
 use Rattle.history_model.proofs.Basics.{legal-kept}
 use Rattle.history_model.proofs.AccountsBirths.{born-on_node, message_at-among, sent-among, sent-born}
 use Rattle.history_model.proofs.CompletenessTold.{blank-empty}
 use Rattle.history_model.proofs.FoldSumsKnown.{holds-among}
 use Rattle.history_model.proofs.Lists.{IsAmong-flat_map, place-within}
+use Rattle.history_model.proofs.LiveCounts.{actors_of-born, place-has}
 use Rattle.history_model.proofs.SoundnessQuiet.{got-born, live-born}
 
 -- ---- legality
@@ -43,34 +45,27 @@ legal-test cl (e ∷ p) t =
 
 -- all actors born so far
 abbrev born_actors : Cluster → List Event → List Actor
-born_actors cl h = flat_map (λ n. map (actor n) (nodes_below (births n h))) (nodes_below cl.nodes)
-
-IsAmong-map : {A B : Type 0} (f : A → B) (x : A) (xs : List A) → IsAmong x xs → IsAmong (f x) (map f xs)
-IsAmong-map f x [] among = absurd among
-IsAmong-map f x (y ∷ ys) (inl e) = inl (ap f e)
-IsAmong-map f x (y ∷ ys) (inr later) = inr (IsAmong-map f x ys later)
+born_actors cl h = flat_map (λ n. actors_of n h) (nodes_below cl.nodes)
 
 node-among : (n k : ℕ) → k < n → IsAmong k (nodes_below n)
 node-among n k below = IsAmong-range k 0 n (omega arith) (omega (arith, below))
 
 born-among : (cl : Cluster) (h : List Event) → IsLegal cl h → (a : Actor) → IsTrue (is_born a h) → IsAmong a (born_actors cl h)
 born-among cl h legal a born =
-    IsAmong-flat_map (λ n. map (actor n) (nodes_below (births n h))) a a.node (nodes_below cl.nodes)
-    (node-among cl.nodes a.node (born-on_node cl h legal a born))
-    (IsAmong-map (actor a.node) a.serial (nodes_below (births a.node h))
-    (node-among (births a.node h) a.serial (ltb-true a.serial (births a.node h) born)))
+    let node = node-among cl.nodes a.node (born-on_node cl h legal a born) in
+    IsAmong-flat_map (λ n. actors_of n h) a a.node (nodes_below cl.nodes) node (actors_of-born h a born)
 
--- message number k of the link, where it was not admitted and has a copy
-abbrev copied : ℕ → ℕ → List Event → ℕ → List Message
-copied s d h k = if was_admitted s d k h || not (nat_lt 0 (copies s d k h)) then [] else message_at s d k h
+-- message number k of the link, where it is under way
+abbrev message_under_way : ℕ → ℕ → List Event → ℕ → List Message
+message_under_way s d h k = if is_under_way s d h k then message_at s d k h else []
 
--- what is under way from s to d
-abbrev under_way : List Event → ℕ → ℕ → List Message
-under_way h s d = if (s == d) || (not (is_up d h) || is_closed s d h) then [] else flat_map (copied s d h) (nodes_below (length (sent s d h)))
+-- what is under way from s to d, another node that is up
+abbrev messages_to : List Event → ℕ → ℕ → List Message
+messages_to h s d = if (s == d) || not (is_up d h) then [] else flat_map (message_under_way s d h) (nodes_below (length (sent s d h)))
 
 -- what is under way from s
-abbrev under_way_from : Cluster → List Event → ℕ → List Message
-under_way_from cl h s = flat_map (under_way h s) (nodes_below cl.nodes)
+abbrev messages_from : Cluster → List Event → ℕ → List Message
+messages_from cl h s = flat_map (messages_to h s) (nodes_below cl.nodes)
 
 -- what waits for b, where its node is up
 abbrev takeable : List Event → Actor → List Message
@@ -78,7 +73,7 @@ takeable h b = if is_up b.node h then waiting b h else []
 
 -- what waits for the actors of nodes that are up, and what is under way
 abbrev live_messages : Cluster → List Event → List Message
-live_messages cl h = flat_map (takeable h) (born_actors cl h) ++ flat_map (under_way_from cl h) (nodes_below cl.nodes)
+live_messages cl h = flat_map (takeable h) (born_actors cl h) ++ flat_map (messages_from cl h) (nodes_below cl.nodes)
 
 -- the ends of a message under way are nodes of the cluster
 on_link-nodes : (cl : Cluster) (h : List Event) → IsLegal cl h → (m : Message) → IsOnLink h m → (m.from.node < cl.nodes) × (m.to.node < cl.nodes)
@@ -87,21 +82,22 @@ on_link-nodes cl h legal m on =
     let born = sent-born cl h legal m (sent-among m.from.node m.to.node h m (message_at-among m.from.node m.to.node on.0 h m there)).0 in
     (born-on_node cl h legal m.from born.0, born-on_node cl h legal m.to born.1)
 
-on_link-among : (h : List Event) (m : Message) → IsTrue (is_up m.to.node h) → IsOnLink h m → IsAmong m (under_way h m.from.node m.to.node)
+on_link-among : (h : List Event) (m : Message) → IsTrue (is_up m.to.node h) → IsOnLink h m → IsAmong m (messages_to h m.from.node m.to.node)
 on_link-among h m up on =
     let s = m.from.node in
     let d = m.to.node in
-    let here : IsAmong m (copied s d h on.0) = rw (on.3, lt-ltb 0 (copies s d on.0 h) on.4) (subst (IsAmong m) (sym on.1) (inl refl)) in
+    let here : IsAmong m (message_under_way s d h on.0) =
+    rw (on.2, on.3, lt-ltb 0 (copies s d on.0 h) on.4) (subst (IsAmong m) (sym on.1) (inl refl)) in
     let number = node-among (length (sent s d h)) on.0 (place-within (sent s d h) on.0 m on.1) in
-    let all = IsAmong-flat_map (copied s d h) m on.0 (nodes_below (length (sent s d h))) number here in
-    rw (ne_eqb s d on.5, up, on.2) all
+    let all = IsAmong-flat_map (message_under_way s d h) m on.0 (nodes_below (length (sent s d h))) number here in
+    rw (ne_eqb s d on.5, up) all
 
 -- what is live is among these
 live-among : (cl : Cluster) (h : List Event) → IsLegal cl h → (m : Message) → IsLive h m → IsAmong m (live_messages cl h)
 live-among cl h legal m live =
     let nodes = nodes_below cl.nodes in
     let waits = flat_map (takeable h) (born_actors cl h) in
-    let on_links = flat_map (under_way_from cl h) nodes in
+    let on_links = flat_map (messages_from cl h) nodes in
     elim live.1 [
       | inl there ↦
           let born = born-among cl h legal m.to (live-born cl h legal m live) in
@@ -109,8 +105,8 @@ live-among cl h legal m live =
       | inr on ↦
           let ends = on_link-nodes cl h legal m on in
           let here = on_link-among h m live.0 on in
-          let from = IsAmong-flat_map (under_way h m.from.node) m m.to.node nodes (node-among cl.nodes m.to.node ends.1) here in
-          let all = IsAmong-flat_map (under_way_from cl h) m m.from.node nodes (node-among cl.nodes m.from.node ends.0) from in
+          let from = IsAmong-flat_map (messages_to h m.from.node) m m.to.node nodes (node-among cl.nodes m.to.node ends.1) here in
+          let all = IsAmong-flat_map (messages_from cl h) m m.from.node nodes (node-among cl.nodes m.from.node ends.0) from in
           IsAmong-append_right m waits on_links all
     ]
 
@@ -219,16 +215,10 @@ queue-beyond cl (Publish m ∷ p) legal n beyond =
     elim (m == n) as (λ v. cond v [] (queue cl n p) ≡ []) [ true ↦ refl | false ↦ before ]
 queue-beyond cl (_ ∷ p) legal n beyond = queue-beyond cl p legal.1 n beyond
 
--- what stands at a place of a list
-item-at : {A : Type 0} (k : ℕ) (xs : List A) → k < length xs → (x : A) × (option_to_list (slice_get xs k) ≡ x ∷ [])
-item-at k [] below = absurd (omega arith)
-item-at zero (x ∷ xs) below = (x, refl)
-item-at (suc k) (x ∷ xs) below = item-at k xs (omega arith)
-
 -- messages are sent between nodes of the cluster
 sent-nodes : (cl : Cluster) (h : List Event) → IsLegal cl h → (s d k : ℕ) → k < length (sent s d h) → (s < cl.nodes) × (d < cl.nodes)
 sent-nodes cl h legal s d k below =
-    let item = item-at k (sent s d h) below in
+    let item = place-has (sent s d h) k below in
     let there : IsAmong item.0 (message_at s d k h) = subst (IsAmong item.0) (sym item.1) (inl refl) in
     let found = sent-among s d h item.0 (message_at-among s d k h item.0 there) in
     let born = sent-born cl h legal item.0 found.0 in (

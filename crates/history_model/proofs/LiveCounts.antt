@@ -28,7 +28,7 @@ use Rattle.history_model.proofs.LinksSums.{sum_by-positive, sum_by-some}
 -- ---- the actors of a node
 
 -- they are the actors born there
-actors_of-born : (h : List Event) (a : Actor) → IsTrue (is_born a h) → IsAmong a (actors_of a.node h)
+pub actors_of-born : (h : List Event) (a : Actor) → IsTrue (is_born a h) → IsAmong a (actors_of a.node h)
 actors_of-born h a born =
     let below = ltb-true a.serial (births a.node h) born in
     among-map a.serial (range_with_len 0 (births a.node h)) (IsAmong-range a.serial 0 (births a.node h) (omega arith) (omega arith))
@@ -62,7 +62,7 @@ message-counts m [] none = absurd none
 message-counts m (x ∷ xs) among = omega arith
 
 -- each place of a list has a message
-place-has : (ms : List Message) (k : ℕ) → k < length ms → (m : Message) × (option_to_list (slice_get ms k) ≡ m ∷ [])
+pub place-has : (ms : List Message) (k : ℕ) → k < length ms → (m : Message) × (option_to_list (slice_get ms k) ≡ m ∷ [])
 place-has [] k below = absurd (omega arith)
 place-has (m ∷ ms) zero below = (m, refl)
 place-has (m ∷ ms) (suc k) below = place-has ms k (omega arith)

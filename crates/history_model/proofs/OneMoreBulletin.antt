@@ -1,5 +1,5 @@
 -- What one more bulletin changes: its facts count where it is folded, and nothing else does.
-use Rattle.std.proofs.Common.{◌≡◌, ◌≢◌, ◌<◌, ◌+◌, ◌⊎◌, ◌↔◌, ◌==◌, ℕ, zero, suc, Bool, true, false, cond, List, [], ◌∷◌, ◌++◌, flat_map, take, refl, sym, ◌∙◌, ap, subst, inl, inr, arith, append-nil, slice_get}
+use Rattle.std.proofs.Common.{◌≡◌, ◌≢◌, ◌<◌, ◌+◌, ◌⊎◌, ◌↔◌, ◌==◌, ℕ, zero, suc, Bool, true, false, cond, List, [], ◌∷◌, ◌++◌, flat_map, length, take, refl, sym, ◌∙◌, ap, subst, inl, inr, arith, append_assoc, append-nil, slice_get}
 use Rattle.std.proofs.lemmas.Bool.{cases_Bool, cond-true, cond-false, eqb-true, ne_eqb}
 use Rattle.std.specs.Prelude.{Option, Some, None}
 use Rattle.std.specs.Option.{option_or}
@@ -20,6 +20,7 @@ use Rattle.history_model.specs.Facts.{Fact, Flags, is_created, is_received, is_r
 use Rattle.history_model.specs.Streams.{Notice, delta, window_of, final_of, stream}
 use Rattle.history_model.specs.Folds.{Fold, final_links, fold_to, links_into, lost_of}
 use Rattle.history_model.specs.Graph.{admitted_facts, all_told, delta_facts, known_actors, last_flags, link_facts, named_by, notice_facts, own_flags, told_facts}
+use Rattle.history_model.specs.Compaction.{IsFoldOf, IsWithin}
 use Rattle.history_model.specs.Ledgers.{CountAlike, fact_counts, ledger_counts, no_rows, window_ledger}
 use Rattle.history_model.specs.MoreFolded.{AreLinksOf, CountsNotice, FoldsNext, IsNext, KnowsNotice, KnowsRows, link_part, link_rows, own_part, own_rows, raised, told_by, with_notice}
 use Rattle.history_model.specs.Tells.{IsLedgerOf, IsOrdered, Tells, bulletin_ledger, facts_in}
@@ -243,7 +244,7 @@ take-next zero (y ∷ ys) x e = ap (λ z. z ∷ []) (some-inside y x e)
     some-inside y x e = cc
 take-next (suc k) (y ∷ ys) x e = ap (λ zs. y ∷ zs) (take-next k ys x e)
 
-pub fold-next : (cl : Cluster) (h : List Event) (c : ℕ → ℕ) (o : ℕ) (n : Notice) → IsNext cl h c o n → FoldsNext cl h c o n
+fold-next : (cl : Cluster) (h : List Event) (c : ℕ → ℕ) (o : ℕ) (n : Notice) → slice_get (stream cl o h) (c o) ≡ Some n → FoldsNext cl h c o n
 fold-next cl h c o n e =
     let each : (k : ℕ) → fold_to cl (raised o c) h k ≡ with_notice o n (fold_to cl c h) k = λ k.
     let Goal : Bool → Type 0 = λ v. (k == o) ≡ v → take (cond v (c k + 1) (c k)) (stream cl k h) ≡ cond v (take (c k) (stream cl k h) ++ n ∷ []) (take (c k) (stream cl k h)) in
@@ -257,6 +258,45 @@ fold-next cl h c o n e =
     ] in
     goal refl in
     λ i k. each k i
+
+-- where the cut counts no more than there is, it counts what is folded
+place-folded : {X : Type 0} (k : ℕ) (xs : List X) (x : X) → slice_get xs (length (take k xs)) ≡ Some x → slice_get xs k ≡ Some x
+place-folded zero xs x e = e
+place-folded (suc k) [] x e = absurd (cc)
+place-folded (suc k) (y ∷ ys) x e = place-folded k ys x e
+
+pub cut-next : (cl : Cluster) (h : List Event) (c : ℕ → ℕ) (o : ℕ) (n : Notice) → IsNext cl h o n (fold_to cl c h) → FoldsNext cl h c o n
+cut-next cl h c o n e = fold-next cl h c o n (place-folded (c o) (stream cl o h) n e)
+
+-- the fold is within the one with one more
+pub with_notice-within : (o : ℕ) (n : Notice) (f : Fold) → IsWithin f (with_notice o n f)
+with_notice-within o n f k = elim (k == o) as (λ v. (more : List Notice) × (cond v (f k ++ n ∷ []) (f k) ≡ f k ++ more)) [
+  | true ↦ (n ∷ [], refl)
+  | false ↦ ([], sym (append-nil (f k)))
+]
+
+-- after the first bulletins of a stream the next one begins the rest
+rest-next : {X : Type 0} (xs ys : List X) (x : X) → slice_get (xs ++ ys) (length xs) ≡ Some x → (zs : List X) × (ys ≡ x ∷ zs)
+rest-next [] [] x e = absurd (cc)
+rest-next [] (y ∷ ys) x e = (ys, ap (λ z. z ∷ ys) (inside y x e))
+  where
+    inside : {X : Type 0} (u v : X) → Some u ≡ Some v → u ≡ v
+    inside u v q = cc
+rest-next (z ∷ xs) ys x e = rest-next xs ys x e
+
+pub with_notice-of : (cl : Cluster) (h : List Event) (o : ℕ) (n : Notice) (f : Fold) → IsFoldOf cl h f → IsNext cl h o n f → IsFoldOf cl h (with_notice o n f)
+with_notice-of cl h o n f part next k =
+    let before = part k in
+    let Goal : Bool → Type 0 = λ v. (k == o) ≡ v → (more : List Notice) × (stream cl k h ≡ cond v (f k ++ n ∷ []) (f k) ++ more) in
+    let goal : Goal (k == o) = elim (k == o) as Goal [
+      | true ↦ λ same. (
+          let here : slice_get (stream cl k h) (length (f k)) ≡ Some n = subst (λ j. slice_get (stream cl j h) (length (f j)) ≡ Some n) (sym (eqb-true k o same)) next in
+          let rest = rest-next (f k) before.0 n (subst (λ xs. slice_get xs (length (f k)) ≡ Some n) before.1 here) in
+          (rest.0, before.1 ∙ ap (λ ys. f k ++ ys) rest.1 ∙ sym (append_assoc (f k) (n ∷ []) rest.0))
+          )
+      | false ↦ λ _. before
+    ] in
+    goal refl
 
 -- ---- lost nodes
 

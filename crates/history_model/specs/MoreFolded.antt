@@ -1,5 +1,5 @@
 -- One bulletin more: what a fold, its counts and its lost nodes become when it is folded.
-use Rattle.std.specs.Prelude.{◌≡◌, ◌+◌, ◌==◌, ◌||◌, ◌⊎◌, ◌↔◌, if◌then◌else◌, ℕ, Bool, false, List, [], ◌∷◌, ◌++◌, Some, slice_get}
+use Rattle.std.specs.Prelude.{◌≡◌, ◌+◌, ◌==◌, ◌||◌, ◌⊎◌, ◌↔◌, if◌then◌else◌, ℕ, Bool, false, List, [], ◌∷◌, ◌++◌, Some, length, slice_get}
 use Rattle.std.specs.Option.{option_or}
 use Rattle.crgc_ids.specs.Actor.{Actor}
 use Rattle.crgc_ids.specs.Members.{IsAmong, IsPart}
@@ -13,6 +13,7 @@ use Rattle.history_model.specs.Streams.{Notice, delta, window_of, final_of, stre
 use Rattle.history_model.specs.Folds.{Fold, final_links, fold_to, links_into}
 use Rattle.history_model.specs.Graph.{admitted_count, carried_count, created_count, received_count, released_count, told_count}
 use Rattle.history_model.specs.Graph.{admitted_facts, delta_facts, known_actors, last_flags, own_flags}
+use Rattle.history_model.specs.Compaction.{IsFoldOf}
 use Rattle.history_model.specs.Ledgers.{Ledger, delta_ledger, ledger_names, no_rows, window_ledger}
 use Rattle.history_model.specs.Tells.{bulletin_ledger, fact_names, facts_in}
 
@@ -82,10 +83,14 @@ KnowsRows cl o b n f =
     (a : Actor) → IsAmong a (known_actors cl (with_notice o n f)) ↔ (IsAmong a (known_actors cl f) ⊎ IsAmong a (ledger_names (bulletin_ledger b)))
 
 -- the notice is the first one of node o's stream that is not folded
-abbrev pub IsNext : Cluster → List Event → (ℕ → ℕ) → ℕ → Notice → Type 0
-IsNext cl h c o n = slice_get (stream cl o h) (c o) ≡ Some n
+abbrev pub IsNext : Cluster → List Event → ℕ → Notice → Fold → Type 0
+IsNext cl h o n f = slice_get (stream cl o h) (length (f o)) ≡ Some n
 
--- then it is the one more that is folded where the cut at o rises
+-- with the notice at o, what is folded is of the history's streams
+abbrev pub IsFoldWith : Cluster → List Event → ℕ → Notice → Fold → Type 0
+IsFoldWith cl h o n f = IsFoldOf cl h (with_notice o n f)
+
+-- where the cut at o rises, it is the one more that is folded
 abbrev pub FoldsNext : Cluster → List Event → (ℕ → ℕ) → ℕ → Notice → Type 0
 FoldsNext cl h c o n = fold_to cl (raised o c) h ≡ with_notice o n (fold_to cl c h)
 

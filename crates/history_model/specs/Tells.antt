@@ -10,7 +10,7 @@ use Rattle.history_model.specs.declared.records.Window as windows
 use Rattle.history_model.specs.declared.events.Event.{Event}
 use Rattle.history_model.specs.declared.events.Event.TheVariants.{Admit, Remove, Window}
 use Rattle.history_model.specs.Tally.{tally}
-use Rattle.history_model.specs.Facts.{Fact, Flags, is_created, is_received, is_released, is_sent_to}
+use Rattle.history_model.specs.Facts.{Fact, Flags, is_created, is_received, is_released, is_sent_to, message_facts}
 use Rattle.history_model.specs.Messages.{Message, admitted_by}
 use Rattle.history_model.specs.Graph.{last_flags, named_by}
 use Rattle.history_model.specs.Streams.{Notice, delta, window_of, final_of}
@@ -99,6 +99,10 @@ message_recipients ms = map (λ m. m.to) ms
 -- the pairs of a recipient and a reference carried to it, in order
 abbrev pub message_pairs : List Message → List (Actor × Actor)
 message_pairs ms = flat_map (λ m. map (λ a. (m.to, a)) m.refs) ms
+
+-- the facts of all the messages
+abbrev pub messages_facts : List Message → List Fact
+messages_facts ms = flat_map message_facts ms
 
 -- the window counts the messages' recipients, and the pairs that they carry
 pub record CountsMessages (w : windows.Window) (ms : List Message) : Type 0 where

@@ -1,7 +1,6 @@
 //! The laws of bulletins: how the records that are written, read and kept stand to the facts of a history, and what one more
 //! bulletin or one more lost node changes. Each function does nothing, and its contract is the law.
 ghost use Rattle.std.specs.Prelude.{◌≡◌, ◌≢◌, ◌<◌, ◌++◌, [], ◌∷◌, ℕ, Bool, List};
-ghost use Rattle.std.specs.List.{flat_map};
 ghost use Rattle.crgc_ids.specs.Actor.{Actor};
 ghost use Rattle.crgc_ids.specs.LostNodes.{lost_nodes};
 ghost use Rattle.history_model.specs.declared.events.Event.{Event};
@@ -10,17 +9,19 @@ ghost use Rattle.history_model.specs.declared.records.Delta.{Delta};
 ghost use Rattle.history_model.specs.declared.records.Entry.{Entry};
 ghost use Rattle.history_model.specs.declared.records.Window.{Window};
 ghost use Rattle.history_model.specs.Cluster.{Cluster};
-ghost use Rattle.history_model.specs.Facts.{Fact, Flags, flagged, message_facts};
-ghost use Rattle.history_model.specs.Folds.{Fold, lost_of};
+ghost use Rattle.history_model.specs.Compaction.{IsFoldOf, IsWithin};
+ghost use Rattle.history_model.specs.Facts.{Fact, Flags, flagged};
+ghost use Rattle.history_model.specs.Folds.{Fold, fold_to, lost_of};
 ghost use Rattle.history_model.specs.Graph.{rising_actors};
 ghost use Rattle.history_model.specs.Ledgers.{CountAlike, CountFromOne, IsInOrder, Ledger, ledger_counts, ledger_names, window_ledger};
 ghost use Rattle.history_model.specs.Messages.{Message};
-ghost use Rattle.history_model.specs.MoreFolded.{AreLinksOf, CountsNotice, FoldsNext, IsLostToo, IsNext, KnowsNotice, KnowsRows, MovesCounts};
+ghost use Rattle.history_model.specs.MoreFolded.{AreLinksOf, IsFoldWith, IsLostToo, IsNext};
+ghost use Rattle.history_model.specs.MoreFolded.{CountsNotice, FoldsNext, KnowsNotice, KnowsRows, MovesCounts};
 ghost use Rattle.history_model.specs.MoreFolded.{link_part, link_rows, own_part, own_rows, told_by, with_notice};
 ghost use Rattle.history_model.specs.Streams.{Notice, log, window};
 ghost use Rattle.history_model.specs.Tells.{AreNotedBy, CountsLog, CountsMessages, IsDeltaOf, IsLedgerOf, IsOrdered};
 ghost use Rattle.history_model.specs.Tells.{TellEntries, Tells, TellsDelta, TellsEntry};
-ghost use Rattle.history_model.specs.Tells.{admitted_since, bulletin_ledger, fact_names, facts_in, origin_of};
+ghost use Rattle.history_model.specs.Tells.{admitted_since, bulletin_ledger, fact_names, facts_in, messages_facts, origin_of};
 
 /// Rows that rise and of which none counts 0 are determined by what they count: so only one bulletin tells a notice.
 pub fn a_notice_has_one_bulletin()
@@ -55,8 +56,8 @@ pub fn entries_add_up()
 /// A window that counts messages tells their facts; and the facts of a link's window in a history are those of the messages
 /// that were admitted since the last one.
 pub fn a_window_tells_what_was_admitted()
-    ensures rows { (w : Window) (ms : List Message) → CountsMessages w ms → IsLedgerOf (flat_map message_facts ms) (window_ledger w) }
-    ensures facts { (s d : ℕ) (h : List Event) → window s d h ≡ flat_map message_facts (admitted_since s d h) }
+    ensures rows { (w : Window) (ms : List Message) → CountsMessages w ms → IsLedgerOf (messages_facts ms) (window_ledger w) }
+    ensures facts { (s d : ℕ) (h : List Event) → window s d h ≡ messages_facts (admitted_since s d h) }
 {}
 
 /// The rows of a bulletin count what it tells, part by part, and the actors that they name become known.
@@ -69,13 +70,15 @@ pub fn rows_count_what_a_bulletin_tells()
 
 /// One bulletin more adds to a fold what it tells, and nothing else: to the counts for any nodes taken as lost, also for one
 /// node alone, which is what others admitted from it; to what its node told; to the known actors, the own flags and the Finals.
-/// The next bulletin of a stream is the one that a raised cut folds.
+/// What is folded of a history stays so with the next bulletin of a stream, which is the one that a raised cut folds.
 pub fn one_more_bulletin_counts()
     ensures counts { (cl : Cluster) (lost : ℕ → Bool) (o : ℕ) (n : Notice) (f : Fold) → o < cl.nodes → CountsNotice cl lost o n f }
     ensures knows { (cl : Cluster) (o : ℕ) (n : Notice) (f : Fold) → o < cl.nodes → KnowsNotice cl o n f }
     ensures node { (o : ℕ) (n : Notice) (f : Fold) → told_by o (with_notice o n f) ≡ told_by o f ++ own_part n }
     ensures others { (o s : ℕ) (n : Notice) (f : Fold) → s ≢ o → told_by s (with_notice o n f) ≡ told_by s f }
-    ensures next { (cl : Cluster) (h : List Event) (c : ℕ → ℕ) (o : ℕ) (n : Notice) → IsNext cl h c o n → FoldsNext cl h c o n }
+    ensures within { (o : ℕ) (n : Notice) (f : Fold) → IsWithin f (with_notice o n f) }
+    ensures more { (cl : Cluster) (h : List Event) (o : ℕ) (n : Notice) (f : Fold) → IsFoldOf cl h f → IsNext cl h o n f → IsFoldWith cl h o n f }
+    ensures next { (cl : Cluster) (h : List Event) (c : ℕ → ℕ) (o : ℕ) (n : Notice) → IsNext cl h o n (fold_to cl c h) → FoldsNext cl h c o n }
 {}
 
 /// Where one node more is taken as lost, what it told no longer counts, and what others admitted from it counts. Nothing else

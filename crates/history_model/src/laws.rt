@@ -1,7 +1,7 @@
 //! The laws of the collector. Each function does nothing, and its contract is the law. They hold of every legal history of
 //! every cluster, in both versions, with losses, repeats, crashes and removals; a history is a list of events, the newest
 //! first, and `q ++ h` is a longer one.
-ghost use Rattle.std.specs.Prelude.{◌≡◌, ◌≤◌, ◌+◌, ◌↔◌, ◌⊎◌, ◌++◌, ◌∷◌, ℕ, Bool, true, false, IsTrue, if◌then◌else◌, nat_lt, List, length, flat_map};
+ghost use Rattle.std.specs.Prelude.{◌≡◌, ◌≤◌, ◌+◌, ◌↔◌, ◌++◌, ◌∷◌, ℕ, Bool, true, false, IsTrue, if◌then◌else◌, nat_lt, List, length};
 ghost use Rattle.crgc_ids.specs.Actor.{Actor, IsActorBelow};
 ghost use Rattle.crgc_ids.specs.LostNodes.{IsLostSet};
 ghost use Rattle.crgc_ids.specs.Members.{IsAmong, IsPart};
@@ -13,14 +13,14 @@ ghost use Rattle.history_model.specs.Folds.{Fold, final_links, fold_to, folded, 
 ghost use Rattle.history_model.specs.Graph.{dead, known_actors};
 ghost use Rattle.history_model.specs.Held.{gave, got};
 ghost use Rattle.history_model.specs.Legal.{IsLegal, is_parent};
-ghost use Rattle.history_model.specs.Messages.{Message, is_admit, is_lose, is_repeat, mail, sent, takes};
-ghost use Rattle.history_model.specs.Quiescent.{IsLive, IsQuiescent, IsQuietPoint, IsQuietSet};
+ghost use Rattle.history_model.specs.Messages.{is_admit, is_lose, is_repeat, mail, sent, takes};
+ghost use Rattle.history_model.specs.Quiescent.{IsQuiescent, IsQuietPoint, IsQuietSet};
 ghost use Rattle.history_model.specs.Reached.{IsReached};
 ghost use Rattle.history_model.specs.Settled.{AreSettled};
 ghost use Rattle.history_model.specs.State.{is_up};
 ghost use Rattle.history_model.specs.Sweeps.{dead_at, is_stopped, stop_of, stopped_by};
 ghost use Rattle.history_model.specs.Tally.{tally};
-ghost use Rattle.history_model.specs.Uses.{IsUnused, messages_in, sent_by};
+ghost use Rattle.history_model.specs.Uses.{IsUnused, OnlyLiveMove};
 
 /// Soundness. Nobody can use an actor that is dead in what is folded at a node, and none of the dead acts of itself: all
 /// of them together, on all nodes, are the set that shows each of them quiescent.
@@ -56,7 +56,7 @@ pub fn nobody_uses_the_quiescent()
 /// What an event sends, admits or takes was live at each earlier moment, or was sent since. So a message that was sent and is
 /// not live will never be taken.
 pub fn only_live_messages_are_taken()
-    ensures { (cl : Cluster) (e : Event) (q h : List Event) (m : Message) → IsLegal cl (e ∷ (q ++ h)) → IsAmong m (messages_in e (q ++ h)) → IsLive h m ⊎ IsAmong m (flat_map sent_by (e ∷ q)) }
+    ensures { (cl : Cluster) (h : List Event) → OnlyLiveMove cl h }
 {}
 
 /// Completeness. At a quiet point of a node, its quiescent actors are all dead in what is folded there. So after a sweep
