@@ -1,0 +1,36 @@
+//! Reads a script from each line of the input, and prints its first fault, or that it is one.
+#![tactic(auto)]
+
+use crgc_ids::Octets;
+use script_reader::{ScriptFault, ScriptRead, read_script};
+use std::io::{self, BufRead, BufReader};
+
+fn main(rt: HostRuntime) -> io::Result<()> {
+    for line in BufReader::new(rt.alloc(), rt.reader())?.lines(rt.alloc()) {
+        let line = line?;
+        match read_script(rt.alloc(), line.as_bytes()) {
+            Ok(_) => println!(rt; "a script")?,
+            Err(ScriptRead::NoMemory) => println!(rt; "no memory")?,
+            Err(ScriptRead::Fault(fault)) => tell(&rt, &fault)?,
+        }
+    }
+    Ok(())
+}
+
+fn tell(rt: &impl Print, fault: &ScriptFault) -> io::Result<()> {
+    match fault {
+        ScriptFault::Json => rt.println("json"),
+        ScriptFault::Key(name) => tell_name(rt, "key", name),
+        ScriptFault::Missing(name) => tell_name(rt, "missing", name),
+        ScriptFault::Kind(name) => tell_name(rt, "kind", name),
+        ScriptFault::Range(name) => tell_name(rt, "range", name),
+        ScriptFault::UnknownBehaviour(name) => tell_name(rt, "unknown-behaviour", name),
+    }
+}
+
+fn tell_name(rt: &impl Print, word: &str, name: &Octets) -> io::Result<()> {
+    match std::str::from_utf8(name.as_slice()) {
+        Ok(name) => println!(rt; "{word} {name}"),
+        Err(_) => println!(rt; "{word}"),
+    }
+}
