@@ -1,6 +1,7 @@
 -- What one more bulletin changes: its facts count where it is folded, and nothing else does.
 use Rattle.std.proofs.Common.{◌≡◌, ◌≢◌, ◌<◌, ◌+◌, ◌⊎◌, ◌↔◌, ◌==◌, ℕ, zero, suc, Bool, true, false, cond, List, [], ◌∷◌, ◌++◌, flat_map, length, take, refl, sym, ◌∙◌, ap, subst, inl, inr, arith, append_assoc, append-nil, slice_get}
 use Rattle.std.proofs.lemmas.Bool.{cases_Bool, cond-true, cond-false, eqb-true, ne_eqb}
+use Rattle.std.proofs.lemmas.Option.{same_Some}
 use Rattle.std.specs.Prelude.{Option, Some, None}
 use Rattle.std.specs.Option.{option_or}
 use Rattle.crgc_ids.specs.Actor.{Actor}
@@ -238,10 +239,7 @@ knows-notice cl o n f inside = record {
 -- the next bulletin of a stream is the one more
 take-next : {X : Type 0} (k : ℕ) (xs : List X) (x : X) → slice_get xs k ≡ Some x → take (suc k) xs ≡ take k xs ++ x ∷ []
 take-next k [] x e = absurd (cc)
-take-next zero (y ∷ ys) x e = ap (λ z. z ∷ []) (some-inside y x e)
-  where
-    some-inside : {X : Type 0} (y x : X) → Some y ≡ Some x → y ≡ x
-    some-inside y x e = cc
+take-next zero (y ∷ ys) x e = ap (λ z. z ∷ []) (same_Some y x e)
 take-next (suc k) (y ∷ ys) x e = ap (λ zs. y ∷ zs) (take-next k ys x e)
 
 fold-next : (cl : Cluster) (h : List Event) (c : ℕ → ℕ) (o : ℕ) (n : Notice) → slice_get (stream cl o h) (c o) ≡ Some n → FoldsNext cl h c o n
@@ -278,10 +276,7 @@ with_notice-within o n f k = elim (k == o) as (λ v. (more : List Notice) × (co
 -- after the first bulletins of a stream the next one begins the rest
 rest-next : {X : Type 0} (xs ys : List X) (x : X) → slice_get (xs ++ ys) (length xs) ≡ Some x → (zs : List X) × (ys ≡ x ∷ zs)
 rest-next [] [] x e = absurd (cc)
-rest-next [] (y ∷ ys) x e = (ys, ap (λ z. z ∷ ys) (inside y x e))
-  where
-    inside : {X : Type 0} (u v : X) → Some u ≡ Some v → u ≡ v
-    inside u v q = cc
+rest-next [] (y ∷ ys) x e = (ys, ap (λ z. z ∷ ys) (same_Some y x e))
 rest-next (z ∷ xs) ys x e = rest-next xs ys x e
 
 pub with_notice-of : (cl : Cluster) (h : List Event) (o : ℕ) (n : Notice) (f : Fold) → IsFoldOf cl h f → IsNext cl h o n f → IsFoldOf cl h (with_notice o n f)

@@ -1,6 +1,7 @@
 -- Bulletins, entries and the notices of streams: which rows tell a notice, and that rising rows are the only ones.
 use Rattle.std.proofs.Common.{◌≡◌, ◌↔◌, ℕ, true, false, List, [], ◌∷◌, ◌++◌, flat_map, refl, sym, ◌∙◌, ap, subst, inl, inr, append_assoc, append-nil}
 use Rattle.std.proofs.lemmas.Bool.{cases_Bool, cond-true, cond-false}
+use Rattle.std.proofs.lemmas.Option.{same_Some}
 use Rattle.std.specs.Prelude.{Some, None, unwrap_or}
 use Rattle.crgc_ids.specs.Actor.{Actor, IsActorBelow, same_actor}
 use Rattle.crgc_ids.specs.Members.{IsAmong, IsPart}
@@ -13,10 +14,10 @@ use Rattle.history_model.specs.declared.records.Bulletin.TheVariants as bulletin
 use Rattle.history_model.specs.declared.records.Delta.{Delta}
 use Rattle.history_model.specs.declared.records.Entry.{Entry}
 use Rattle.history_model.specs.declared.records.StateRow.{StateRow}
-use Rattle.history_model.specs.Facts.{Fact, Flags}
+use Rattle.history_model.specs.Facts.{Fact}
 use Rattle.history_model.specs.Streams.{Notice, delta, window_of, final_of}
 use Rattle.history_model.specs.Graph.{named_by, rising_actors}
-use Rattle.history_model.specs.Ledgers.{CountAlike, CountFromOne, IsInOrder, Ledger, delta_ledger, entries_ledger, entry_ledger, fact_counts, joined, ledger_counts, ledger_names, no_rows, received_total, row_flags}
+use Rattle.history_model.specs.Ledgers.{CountAlike, CountFromOne, IsInOrder, Ledger, delta_ledger, entries_ledger, entry_ledger, fact_counts, joined, ledger_counts, ledger_names, no_rows, received_total, row_flags, state_flags}
 use Rattle.history_model.specs.Tells.{TellsDelta, IsDeltaOf, IsLedgerOf, IsOrdered, TellEntries, Tells, TellsEntry, bulletin_ledger, facts_in}
 use Rattle.history_model.proofs.Basics.{same_actor-equal, same_actor-refl}
 use Rattle.history_model.proofs.RisingActors.{rising_actors-same}
@@ -30,25 +31,22 @@ use Rattle.crgc_ids.proofs.KeyOrders.{actor_order, pair_order}
 abbrev StatesRise : List StateRow → Type 0
 StatesRise rows = IsRising (λ r s. IsActorBelow r.actor s.actor) rows
 
-abbrev flags_of : StateRow → Flags
-flags_of r = record { busy = r.busy; root = r.root }
-
 -- rows of other actors tell no flags
 row_flags-none : (a : Actor) (rows : List StateRow) → ((r : StateRow) → IsAmong r rows → same_actor a r.actor ≡ false) → row_flags a rows ≡ None
 row_flags-none a [] other = refl
 row_flags-none a (r ∷ rest) other =
-    cond-false (same_actor a r.actor) (Some (unwrap_or (row_flags a rest) (flags_of r))) (row_flags a rest) (other r (inl refl))
+    cond-false (same_actor a r.actor) (Some (unwrap_or (row_flags a rest) (state_flags r))) (row_flags a rest) (other r (inl refl))
     ∙ row_flags-none a rest (λ s m. other s (inr m))
 
 -- rising rows tell of a row's actor the row's flags
-row_flags-row : (r : StateRow) (rows : List StateRow) → StatesRise rows → IsAmong r rows → row_flags r.actor rows ≡ Some (flags_of r)
+row_flags-row : (r : StateRow) (rows : List StateRow) → StatesRise rows → IsAmong r rows → row_flags r.actor rows ≡ Some (state_flags r)
 row_flags-row r [] rise m = absurd m
 row_flags-row r (s ∷ rest) rise (inl e) =
     let a = r.actor in
     let none = row_flags-none a rest
     (λ t m. key-other IsActorBelow same_actor (λ x. x.actor) actor_order a t (subst (λ w. IsActorBelow w.actor t.actor) (sym e) (all-member (λ w. IsActorBelow s.actor w.actor) t rest rise.0 m))) in
-    cond-true (same_actor a s.actor) (Some (unwrap_or (row_flags a rest) (flags_of s))) (row_flags a rest) (subst (λ w. same_actor a w.actor ≡ true) e (same_actor-refl a))
-    ∙ ap (λ o. Some (unwrap_or o (flags_of s))) none ∙ ap (λ w. Some (flags_of w)) (sym e)
+    cond-true (same_actor a s.actor) (Some (unwrap_or (row_flags a rest) (state_flags s))) (row_flags a rest) (subst (λ w. same_actor a w.actor ≡ true) e (same_actor-refl a))
+    ∙ ap (λ o. Some (unwrap_or o (state_flags s))) none ∙ ap (λ w. Some (state_flags w)) (sym e)
 row_flags-row r (s ∷ rest) rise (inr m) =
     let a = r.actor in
     let above = all-member (λ w. IsActorBelow s.actor w.actor) r rest rise.0 m in
@@ -57,18 +55,15 @@ row_flags-row r (s ∷ rest) rise (inr m) =
       | inl t ↦ absurd (actor_order.apart s.actor (subst (IsActorBelow s.actor) (same_actor-equal a s.actor t) above))
       | inr f ↦ f
     ] in
-    cond-false (same_actor a s.actor) (Some (unwrap_or (row_flags a rest) (flags_of s))) (row_flags a rest) other ∙ row_flags-row r rest rise.1 m
-
-some-inside : (f g : Flags) → Some f ≡ Some g → f ≡ g
-some-inside f g e = cc
+    cond-false (same_actor a s.actor) (Some (unwrap_or (row_flags a rest) (state_flags s))) (row_flags a rest) other ∙ row_flags-row r rest rise.1 m
 
 states-part : (xs ys : List StateRow) → StatesRise xs → StatesRise ys → ((a : Actor) → received_total a xs ≡ received_total a ys) → ((a : Actor) → row_flags a xs ≡ row_flags a ys) → IsPart xs ys
 states-part xs ys rise rise' totals flags x m =
     let here = row_flags-row x xs rise m in
-    let found = row_flags-some x.actor ys (flags_of x) (sym (flags x.actor) ∙ here) in
+    let found = row_flags-some x.actor ys (state_flags x) (sym (flags x.actor) ∙ here) in
     let y : StateRow = found.0 in
     let there = row_flags-row y ys rise' found.1 in
-    let same_flags = some-inside (flags_of y) (flags_of x) (sym there ∙ ap (λ a. row_flags a ys) found.2 ∙ sym (flags x.actor) ∙ here) in
+    let same_flags = same_Some (state_flags y) (state_flags x) (sym there ∙ ap (λ a. row_flags a ys) found.2 ∙ sym (flags x.actor) ∙ here) in
     let took = total-row IsActorBelow same_actor (λ r. r.actor) actor_order (λ r. r.received) x xs rise m in
     let took' = total-row IsActorBelow same_actor (λ r. r.actor) actor_order (λ r. r.received) y ys rise' found.1 in
     let same_count : y.received ≡ x.received = sym took' ∙ ap (λ a. received_total a ys) found.2 ∙ sym (totals x.actor) ∙ took in

@@ -5,7 +5,7 @@ use Rattle.std.specs.Prelude.{Some, unwrap_or}
 use Rattle.crgc_ids.specs.Actor.{Actor, same_actor}
 use Rattle.history_model.specs.declared.records.StateRow.{StateRow}
 use Rattle.history_model.specs.Facts.{Fact, Flags, is_received, is_sent_to, is_created, is_released}
-use Rattle.history_model.specs.Ledgers.{Counts, CountAlike, Ledger, fact_counts, joined, ledger_counts, row_flags}
+use Rattle.history_model.specs.Ledgers.{Counts, CountAlike, Ledger, fact_counts, joined, ledger_counts, row_flags, state_flags}
 use Rattle.history_model.proofs.FoldSumsFlags.{last_flags-append, newer, newer-none, newer-unwrap}
 use Rattle.history_model.proofs.Lists.{tally-append}
 
@@ -73,7 +73,7 @@ facts-both xs ys = record {
 row_flags-append : (a : Actor) (xs ys : List StateRow) → row_flags a (xs ++ ys) ≡ newer (row_flags a xs) (row_flags a ys)
 row_flags-append a [] ys = newer-none (row_flags a ys)
 row_flags-append a (r ∷ xs) ys =
-    let g : Flags = record { busy = r.busy; root = r.root } in
+    let g : Flags = state_flags r in
     let later = row_flags-append a xs ys in
     elim (same_actor a r.actor) as (λ v. cond v (Some (unwrap_or (row_flags a (xs ++ ys)) g)) (row_flags a (xs ++ ys)) ≡ newer (cond v (Some (unwrap_or (row_flags a xs) g)) (row_flags a xs)) (row_flags a ys)) [
       | true ↦ ap (λ f. Some (unwrap_or f g)) later ∙ newer-unwrap (row_flags a xs) (row_flags a ys) g

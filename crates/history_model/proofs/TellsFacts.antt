@@ -8,9 +8,9 @@ use Rattle.history_model.specs.declared.records.Bulletin.{Bulletin}
 use Rattle.history_model.specs.declared.records.Bulletin.TheVariants as bulletins
 use Rattle.history_model.specs.declared.records.StateRow.{StateRow}
 use Rattle.history_model.specs.Tally.{tally}
-use Rattle.history_model.specs.Facts.{Fact, Flags, received, sent_to, created, released, flagged, is_received, is_sent_to, is_created, is_released}
+use Rattle.history_model.specs.Facts.{Fact, received, sent_to, created, released, flagged, is_received, is_sent_to, is_created, is_released}
 use Rattle.history_model.specs.Graph.{last_flags}
-use Rattle.history_model.specs.Ledgers.{Ledger, delta_ledger, row_flags, window_ledger}
+use Rattle.history_model.specs.Ledgers.{Ledger, delta_ledger, row_flags, state_flags, window_ledger}
 use Rattle.history_model.specs.Streams.{Notice, delta, window_of, final_of}
 use Rattle.history_model.specs.Tells.{IsLedgerOf, Tells, origin_of}
 use Rattle.history_model.proofs.Basics.{same_actor-sym}
@@ -20,11 +20,8 @@ use Rattle.history_model.proofs.LinksSums.{sum_by-none, sum_by-same, tally-flat_
 
 -- ---- the facts of a row
 
-abbrev flags_of : StateRow → Flags
-flags_of r = record { busy = r.busy; root = r.root }
-
 abbrev state_facts : StateRow → List Fact
-state_facts r = flagged r.actor (flags_of r) ∷ replicate r.received (received r.actor)
+state_facts r = flagged r.actor (state_flags r) ∷ replicate r.received (received r.actor)
 
 abbrev sent_facts : ActorCount → List Fact
 sent_facts r = replicate r.count (sent_to r.actor)
@@ -132,7 +129,7 @@ module _ (a : Actor) where
   states-flags : (rows : List StateRow) → last_flags a (flat_map state_facts rows) ≡ row_flags a rows
   states-flags [] = refl
   states-flags (r ∷ rows) =
-      let g = flags_of r in
+      let g = state_flags r in
       let later = skipped r.received (received r.actor) (flat_map state_facts rows) (λ _. refl) ∙ states-flags rows in
       ap (λ o. cond (same_actor r.actor a) (Some (unwrap_or o g)) o) later
       ∙ ap (λ v. cond v (Some (unwrap_or (row_flags a rows) g)) (row_flags a rows)) (same_actor-sym r.actor a)

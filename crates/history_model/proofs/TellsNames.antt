@@ -12,7 +12,7 @@ use Rattle.history_model.specs.declared.records.StateRow.{StateRow}
 use Rattle.history_model.specs.Tally.{tally}
 use Rattle.history_model.specs.Facts.{Fact, Flags, received, sent_to, created, released, flagged, is_received, is_sent_to, is_created, is_released, names}
 use Rattle.history_model.specs.Graph.{last_flags, named_by}
-use Rattle.history_model.specs.Ledgers.{CountAlike, CountFromOne, Counts, Ledger, actor_total, fact_counts, ledger_counts, ledger_names, pair_names, pair_total, row_flags}
+use Rattle.history_model.specs.Ledgers.{CountAlike, CountFromOne, Counts, Ledger, actor_total, fact_counts, ledger_counts, ledger_names, pair_names, pair_total, row_flags, state_flags}
 use Rattle.history_model.proofs.Basics.{same_actor-equal, same_actor-refl}
 use Rattle.history_model.proofs.FoldSumsKnown.{created-names, names-among}
 use Rattle.history_model.proofs.Lists.{IsAmong-flat_map, IsAmong-from_flat_map, tally-some}
@@ -133,7 +133,7 @@ module _ (a : Actor) (facts : List Fact) where
 row_flags-member : (r : StateRow) (rows : List StateRow) → IsAmong r rows → (g : Flags) × (row_flags r.actor rows ≡ Some g)
 row_flags-member r [] m = absurd m
 row_flags-member r (s ∷ rest) m =
-    let f : Flags = record { busy = s.busy; root = s.root } in
+    let f : Flags = state_flags s in
     let a = r.actor in
     let Has : Bool → Type 0 = λ v. same_actor a s.actor ≡ v → (g : Flags) × (cond v (Some (unwrap_or (row_flags a rest) f)) (row_flags a rest) ≡ Some g) in
     let has : Has (same_actor a s.actor) = elim (same_actor a s.actor) as Has [
@@ -149,7 +149,7 @@ row_flags-member r (s ∷ rest) m =
 pub row_flags-some : (a : Actor) (rows : List StateRow) (g : Flags) → row_flags a rows ≡ Some g → (r : StateRow) × IsAmong r rows × (r.actor ≡ a)
 row_flags-some a [] g e = absurd (cc)
 row_flags-some a (s ∷ rest) g e =
-    let f : Flags = record { busy = s.busy; root = s.root } in
+    let f : Flags = state_flags s in
     let later : row_flags a rest ≡ Some g → (r : StateRow) × IsAmong r (s ∷ rest) × (r.actor ≡ a) =
     λ k. (let found = row_flags-some a rest g k in (found.0, inr found.1, found.2)) in
     let Found : Bool → Type 0 = λ v. same_actor a s.actor ≡ v → cond v (Some (unwrap_or (row_flags a rest) f)) (row_flags a rest) ≡ Some g

@@ -89,11 +89,14 @@ entries_ledger (e ∷ es) = joined (entry_ledger e) (entries_ledger es)
 abbrev pub received_total : Actor → List StateRow → ℕ
 received_total a rows = sum_by (λ r. if same_actor a r.actor then r.received else 0) rows
 
+abbrev pub state_flags : StateRow → Flags
+state_flags r = record { busy = r.busy; root = r.root }
+
 -- the flags of the actor's last row
 abbrev pub row_flags : Actor → List StateRow → Option Flags
 row_flags a [] = None
 row_flags a (r ∷ rest) =
-    if same_actor a r.actor then Some (unwrap_or (row_flags a rest) (record { busy = r.busy; root = r.root })) else row_flags a rest
+    if same_actor a r.actor then Some (unwrap_or (row_flags a rest) (state_flags r)) else row_flags a rest
 
 -- how often the rows count the actor
 abbrev pub actor_total : Actor → List ActorCount → ℕ
