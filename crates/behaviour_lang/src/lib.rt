@@ -1,13 +1,22 @@
 //! Behaviours: the names, instructions and lists that actors run.
 #![tactic(auto)]
 
+mod act;
+mod bound;
 mod code;
 mod instr;
+pub mod laws;
+mod locals;
 mod names;
+mod run;
+mod turn;
 
+pub use act::{Act, List, Step};
 pub use code::{Behaviour, BehaviourList, Code};
 pub use instr::{Instr, InstrList, Name, NameList};
+pub use locals::Locals;
 pub use names::{is_behaviour_name, is_local_name, message_number};
+pub use turn::Turn;
 
 #[cfg(test)]
 mod tests;

@@ -1,0 +1,13 @@
+use Rattle.std.proofs.Common.{◌≡◌, None, refl, sym, ◌∙◌}
+use Rattle.behaviour_lang.specs.Bound.{bound}
+use Rattle.behaviour_lang.specs.Held.{names_of}
+use Rattle.behaviour_lang.specs.declared.instr.Name.TheVariants.{Local}
+use Rattle.behaviour_lang.proofs.NameLaws.{without_unbound}
+use Rattle.behaviour_lang.proofs.run.Run.spawn.Goals as goal
+
+-- the name is not bound, and waits for the child
+pub returns-in-Ok-clause-some : goal.returns-in-Ok-clause-some
+returns-in-Ok-clause-some c = λ instrs e.
+    let names = names_of c.args.self.now.names in
+    let unbound : bound (Local c.args.name.now) names ≡ None = rw c.as_slice.ensures at (sym c.find_local.ensures ∙ c.in-None.is) in
+    rw (e, unbound, without_unbound _ names unbound, c.in-Ok.ensures) refl
