@@ -3,18 +3,27 @@
 
 use crgc_ids::Octets;
 use script_reader::{ScriptFault, ScriptRead, read_script};
+use std::alloc::Global;
 use std::io::{self, BufRead, BufReader};
 
 fn main(rt: HostRuntime) -> io::Result<()> {
     for line in BufReader::new(rt.alloc(), rt.reader())?.lines(rt.alloc()) {
         let line = line?;
-        match read_script(rt.alloc(), line.as_bytes()) {
-            Ok(_) => println!(rt; "a script")?,
-            Err(ScriptRead::NoMemory) => println!(rt; "no memory")?,
-            Err(ScriptRead::Fault(fault)) => tell(&rt, &fault)?,
+        match first_fault(rt.alloc(), line.as_bytes()) {
+            None => println!(rt; "a script")?,
+            Some(ScriptRead::NoMemory) => println!(rt; "no memory")?,
+            Some(ScriptRead::Fault(fault)) => tell(&rt, &fault)?,
         }
     }
     Ok(())
+}
+
+/// Why the text is no script; None where it is one.
+fn first_fault(alloc: Global, text: &[u8]) -> Option<ScriptRead> {
+    match read_script(alloc, text) {
+        Ok(_) => None,
+        Err(fault) => Some(fault),
+    }
 }
 
 fn tell(rt: &impl Print, fault: &ScriptFault) -> io::Result<()> {
