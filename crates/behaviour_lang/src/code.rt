@@ -1,9 +1,7 @@
 //! Behaviours, and all of them together.
-ghost use Rattle.std.proofs.Props.{props};
-ghost use Rattle.behaviour_lang.specs.Code.{IsCode};
-
 use crate::instr::InstrList;
 use crgc_ids::{ItemList, Octets};
+use std::marker::Model;
 
 /// What an actor does when it is woken, and when it takes a message.
 #[derive(Debug, Drop)]
@@ -17,9 +15,18 @@ pub struct Behaviour {
 pub type BehaviourList = ItemList<Behaviour>;
 
 /// The behaviours of a script: at most 256, with names that differ. Each is well formed: its names are well spelled, its
-/// numbers and lists within their limits, and each behaviour that it spawns is one of these.
+/// numbers and lists within their limits, and each behaviour that it spawns is one of these. Contracts see the list of the
+/// behaviours.
 #[derive(Debug, Drop)]
 pub struct Code {
     pub behaviours: BehaviourList,
-    ghost well_formed: { IsCode behaviours } by { Prim.hlevel props },
+}
+
+impl Model for Code {
+    ghost use Rattle.std.specs.Prelude.{List};
+    ghost use Rattle.behaviour_lang.specs.declared.code.Behaviour.{Behaviour};
+
+    ghost Value = { List Behaviour };
+
+    ghost view = { λ c. c.behaviours };
 }

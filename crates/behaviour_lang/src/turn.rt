@@ -46,7 +46,7 @@ impl Turn {
         refs: RefList,
         root: bool,
     ) -> Result<Turn, NoMemory>
-        requires in_code { behaviour < length code.now.behaviours }
+        requires in_code { behaviour < length code.now }
         requires refs { length refs ≤ 16 }
         ensures { IfOk result (λ t. t ≡ at_start behaviour list (names_at_start refs locals) root) }
     {
@@ -70,9 +70,9 @@ impl Turn {
     pub fn next(&mut self, code: &Code) -> Result<Step, NoMemory>
         requires running { self.old.ended ≡ false }
         requires none_owed { self.old.owed ≡ None }
-        requires in_code { self.old.behaviour < length code.now.behaviours }
-        ensures step { IfOk result (λ s. s ≡ next_step (left_of code.now.behaviours self.old)) }
-        ensures after { OnOk result (left_of code.now.behaviours self.new ≡ after_step (left_of code.now.behaviours self.old)) }
+        requires in_code { self.old.behaviour < length code.now }
+        ensures step { IfOk result (λ s. s ≡ next_step (left_of code.now self.old)) }
+        ensures after { OnOk result (left_of code.now self.new ≡ after_step (left_of code.now self.old)) }
         ensures behaviour { self.new.behaviour ≡ self.old.behaviour }
         ensures list { self.new.list ≡ self.old.list }
         ensures ended { IfOk result (λ s. self.new.ended ≡ is_end s) }
@@ -120,8 +120,8 @@ impl Turn {
 
 // The list of the behaviour with that number.
 fn instrs_of(code: &Code, behaviour: u32, list: List) -> &[Instr]
-    requires { behaviour < length code.now.behaviours }
-    ensures { result.now ≡ instrs_of code.now.behaviours behaviour list }
+    requires { behaviour < length code.now }
+    ensures { result.now ≡ instrs_of code.now behaviour list }
 {
     match code.behaviours.get(behaviour as usize) {
         Some(found) => match list {

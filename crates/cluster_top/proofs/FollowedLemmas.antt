@@ -49,7 +49,7 @@ playable-next : (cl : Cluster) (p : List Event) (e : Event) → IsPlayable cl p 
 playable-next cl p e before next = record {
   nodes = before.nodes;
   version = before.version;
-  spellable = (next.spellable, before.spellable);
+  ranges = (next.ranges, before.ranges);
   built = (next.built, before.built);
   legal = (next.legal, before.legal);
   limits = (next.limits, before.limits);

@@ -4,7 +4,7 @@ use Rattle.history_model.specs.declared.events.Event.{Event}
 use Rattle.history_model.specs.Cluster.{Cluster}
 use Rattle.history_model.specs.Legal.{refusal, IsLegal}
 use Rattle.journal_model.specs.Limits.{limit_passed}
-use Rattle.journal_model.specs.Lines.{header_line, event_line, IsSpellable, AreSpellable, lines_of}
+use Rattle.journal_model.specs.Lines.{header_line, event_line, IsWithinRanges, AreWithinRanges, lines_of}
 use Rattle.plain_world.specs.Built.{is_built, AreBuilt}
 use Rattle.std.specs.Prelude.{true}
 
@@ -17,7 +17,7 @@ IsWithinLimits cl (e ∷ p) = (limit_passed cl e p ≡ None) × IsWithinLimits c
 pub record IsPlayable (cl : Cluster) (h : List Event) : Type 0 where
   pub nodes : cl.nodes ≡ 1
   pub version : (1 ≤ cl.version) × (cl.version ≤ 2)
-  pub spellable : AreSpellable h
+  pub ranges : AreWithinRanges h
   pub built : AreBuilt h
   pub legal : IsLegal cl h
   pub limits : IsWithinLimits cl h
@@ -34,7 +34,7 @@ IsNoJournal text = (cl : Cluster) (h : List Event) → ¬ IsJournal cl h text
 
 -- the event may be the next one of a journal
 pub record IsNext (cl : Cluster) (h : List Event) (e : Event) : Type 0 where
-  pub spellable : IsSpellable e
+  pub ranges : IsWithinRanges e
   pub built : is_built e ≡ true
   pub legal : refusal cl e h ≡ None
   pub limits : limit_passed cl e h ≡ None

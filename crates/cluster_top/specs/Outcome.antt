@@ -1,5 +1,5 @@
 -- What one call of the program does: what it came to, and what it wrote.
-use Rattle.std.specs.Prelude.{ℕ, ◌≡◌, ◌<◌, ◌⊎◌, List, [], ◌∷◌, ◌++◌, Option, length, take, codes}
+use Rattle.std.specs.Prelude.{ℕ, ◌≡◌, ◌<◌, ◌⊎◌, List, [], ◌∷◌, Option, length, take, codes}
 use Rattle.std.specs.Io.KnownBytes.{Appends, IsAtEnd}
 use Rattle.crgc_io.specs.Fault.{CountRose}
 use Rattle.crgc_io.specs.Taken.{Takes}
@@ -23,10 +23,10 @@ IsCommand words = words ≡ codes "play" ∷ []
 abbrev pub HasTaken : {S : Type 0} → (left given : S → Option (List ℕ)) (old new : S) → (List ℕ → Type 0) → Type 0
 HasTaken left given old new P = (taken : List ℕ) × Takes left given old new taken × P taken
 
--- what the call came to before it wrote, with the text that it then had to write
+-- what the call came to before it wrote, with the text that it then had to write; no read failed, but at `ReadFault`
 abbrev pub CameTo : {S : Type 0} → (left given : S → Option (List ℕ)) (faults : S → ℕ) (words : List (List ℕ)) (old new : S) → Status → List ℕ → Type 0
 CameTo left given faults words old new Done text =
-    IsCommand words × IsAtEnd (left new)
+    IsCommand words × IsAtEnd (left new) × (faults new ≡ faults old)
     × HasTaken left given old new (λ taken. (cl : Cluster) × (h : List Event) × IsJournal cl h taken × IsRightlyCollected cl h × (text ≡ report_of cl h))
 CameTo left given faults words old new Usage text =
     (¬ IsCommand words) × (new ≡ old) × (text ≡ line_of (codes "fault 2 usage"))
@@ -35,17 +35,17 @@ CameTo left given faults words old new ReadFault text =
     × (text ≡ line_of (codes "fault 4 read"))
 CameTo left given faults words old new (WriteFault written) text = ⊥
 CameTo left given faults words old new (Journal line cause) text =
-    IsCommand words × (line ≡ 0)
+    IsCommand words × (line ≡ 0) × (faults new ≡ faults old)
     × HasTaken left given old new (λ taken. (length taken ≡ 16777217) ⊎ (IsAtEnd (left new) × IsNoJournal taken))
     × (text ≡ line_of (codes "fault 7 line 0 unbuilt"))
 CameTo left given faults words old new NoMemory text =
-    IsCommand words × HasTaken left given old new (λ taken. length taken < 16777218)
+    IsCommand words × (faults new ≡ faults old) × HasTaken left given old new (λ taken. length taken < 16777218)
     × (text ≡ line_of (codes "fault 8 memory"))
 
 -- all of the text was written, or a write failed after its first bytes
 abbrev pub IsWritten : {K : Type 0} → (held : K → Option (List ℕ)) (faults : K → ℕ) (old new : K) → (reason : Status) (text : List ℕ) (status : Status) → Type 0
 IsWritten held faults old new reason text status =
-    ((status ≡ reason) × Appends (held old) (held new) text)
+    ((status ≡ reason) × Appends (held old) (held new) text × (faults new ≡ faults old))
     ⊎ ((written : ℕ) × (status ≡ WriteFault written) × (written < length text)
     × Appends (held old) (held new) (take written text) × CountRose (faults old) (faults new))
 

@@ -1,5 +1,7 @@
 use crate::{Cause, Status, crgc_top, plain_top};
-use crgc_io::{MemorySink, MemorySource, QuietGate};
+use crgc_ids::ActorId;
+use crgc_io::{Gate, MemorySink, MemorySource, QuietGate};
+use std::sync::atomic::{AtomicU64, Ordering};
 use std::test::Fail;
 
 const DROPPED_CHILD: &str =
@@ -97,6 +99,46 @@ fn other_words_are_refused_and_the_source_is_not_read(rt: HostRuntime) -> Result
         assert_eq!(rt; status, Status::Usage);
         assert_eq!(rt; sink.bytes(), b"fault 2 usage\n".as_slice());
     }
+    Ok(())
+}
+
+/// A gate that counts the turns which begin.
+#[derive(Drop)]
+struct CountingGate {
+    turns: AtomicU64,
+}
+
+impl Gate for CountingGate {
+    fn turn_begins(&self, _worker: u32, _actor: ActorId) {
+        self.turns.fetch_add(1, Ordering::SeqCst);
+    }
+}
+
+#[test]
+fn playing_begins_no_turn(rt: HostRuntime) -> Result<(), Fail> {
+    let gate = CountingGate {
+        turns: AtomicU64::new(0),
+    };
+    let input = DROPPED_CHILD.as_bytes().to_vec(rt.alloc())?;
+    let mut source = MemorySource::new(input, 7, Vec::new(rt.alloc()));
+    let mut sink = MemorySink::new(rt.alloc(), 1000, 9, Vec::new(rt.alloc()))
+        .ok()
+        .ok_or("memory")?;
+    let words = [String::from_str(rt.alloc(), "play")?];
+    let mut kept = None;
+    let status = crgc_top(
+        &rt,
+        rt.alloc(),
+        &words,
+        &mut source,
+        &mut sink,
+        &gate,
+        &mut kept,
+    );
+    assert_eq!(rt; status, Status::Done);
+    assert_eq!(rt; sink.bytes(), DROPPED_CHILD_REPORT.as_bytes());
+    assert_eq!(rt; gate.turns.load(Ordering::SeqCst), 0);
+    assert!(rt; kept.is_none());
     Ok(())
 }
 

@@ -2,6 +2,7 @@ pub mod ActorLaws
 pub mod ActorMaps
 pub mod ActorOrder
 pub mod GreatestLaws
+pub mod KeyOrders
 mod LostNodesExamples
 pub mod LostNodesLaws
 pub mod MembersLaws

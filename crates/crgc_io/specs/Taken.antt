@@ -1,6 +1,7 @@
 -- What reading does to the bytes of a source.
 use Rattle.std.specs.Prelude.{◌≡◌, ℕ, ◌+◌, ◌≤◌, List, Option}
 use Rattle.std.specs.Io.KnownBytes.{Consumes, Appends}
+use Rattle.crgc_io.specs.Fault.{CountRose}
 use Rattle.crgc_io.specs.declared.whole.ReadAll.{ReadAll}
 use Rattle.crgc_io.specs.declared.whole.ReadAll.TheVariants.{ReadFault, TooLong, NoMemory}
 
@@ -17,3 +18,9 @@ abbrev pub IsCountAt : ReadAll → ℕ → ℕ → Type 0
 IsCountAt ReadFault limit count = count ≤ limit
 IsCountAt TooLong limit count = count ≡ limit + 1
 IsCountAt NoMemory limit count = count ≤ limit + 1
+
+-- what the count of faults did before this answer: it rose at a fault, and stood otherwise
+abbrev pub HasCounted : ReadAll → ℕ → ℕ → Type 0
+HasCounted ReadFault old new = CountRose old new
+HasCounted TooLong old new = new ≡ old
+HasCounted NoMemory old new = new ≡ old

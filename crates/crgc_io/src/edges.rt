@@ -1,11 +1,12 @@
 //! The program's edges: std's readers and writers as a source and a sink.
-ghost use Rattle.std.specs.Prelude.{◌≡◌, ◌<◌, ◌≤◌, None, IfOk, OnErr, if◌then◌else◌, is_err, length};
+ghost use Rattle.std.specs.Prelude.{◌≡◌, ◌<◌, ◌≤◌, ◌⊎◌, None, IfOk, OnErr, OnOk, MatchResult, IsErr, IsTrue, IsFalse, if◌then◌else◌, is_err, length};
 ghost use Rattle.std.specs.Io.{ReadsAtMost, WritesAtMost};
 ghost use Rattle.std.specs.Io.KnownBytes.{ReadConsumes, WriteAppends};
 ghost use Rattle.crgc_io.specs.Edges.{source_inner, source_faults, sink_inner, sink_faults};
 ghost use Rattle.crgc_io.specs.Fault.{CountRose, raised};
 
 use crate::traits::{Failed, Sink, Source};
+use std::io;
 use std::io::{Read, Write};
 
 /// A source over a reader of std. Each error of a read counts as a fault. It tells the bytes left
@@ -40,16 +41,23 @@ impl<R: Read> Source for StdSource<R> {
         ensures never_falls { source_faults self.old ≤ source_faults self.new }
         ensures failed { OnErr result
             (CountRose (source_faults self.old) (source_faults self.new)) }
+        ensures stands { OnOk result (source_faults self.new ≡ source_faults self.old) }
         ensures counts { let before = source_faults self.old in
             source_faults self.new ≡ (if is_err result then raised before else before) }
     {
-        match self.inner.read(buf) {
-            Ok(n) => Ok(n),
-            Err(_) => {
-                self.faults = self.faults.saturating_add(1);
-                Err(Failed)
-            }
-        }
+        let answer = read_answer(self.inner.read(buf));
+        count_fault(&mut self.faults, &answer);
+        answer
+    }
+}
+
+// What a read comes to: how many bytes it gave, also where those are none, and a fault at any error.
+fn read_answer(answer: io::Result<usize>) -> Result<usize, Failed>
+    ensures { MatchResult answer (λ n. result ≡ Ok n) (λ _. IsErr result) }
+{
+    match answer {
+        Ok(n) => Ok(n),
+        Err(_) => Err(Failed),
     }
 }
 
@@ -84,15 +92,35 @@ impl<W: Write> Sink for StdSink<W> {
             (W.contents (sink_inner self.new)) result piece.now }
         ensures never_falls { sink_faults self.old ≤ sink_faults self.new }
         ensures failed { OnErr result (CountRose (sink_faults self.old) (sink_faults self.new)) }
+        ensures stands { OnOk result (sink_faults self.new ≡ sink_faults self.old) }
         ensures counts { let before = sink_faults self.old in
             sink_faults self.new ≡ (if is_err result then raised before else before) }
     {
-        match self.inner.write(piece) {
-            Ok(n) if n > 0 || piece.is_empty() => Ok(n),
-            _ => {
-                self.faults = self.faults.saturating_add(1);
-                Err(Failed)
-            }
-        }
+        let answer = write_answer(self.inner.write(piece), piece.is_empty());
+        count_fault(&mut self.faults, &answer);
+        answer
+    }
+}
+
+// What a write comes to: how many bytes it took, and a fault at any error, and where it took none of a piece that is
+// not empty.
+fn write_answer(answer: io::Result<usize>, is_empty: bool) -> Result<usize, Failed>
+    ensures taken { IfOk answer (λ n. (0 < n) ⊎ IsTrue is_empty → result ≡ Ok n) }
+    ensures refused { IfOk answer (λ n. n ≡ 0 → IsFalse is_empty → IsErr result) }
+    ensures failed { OnErr answer (IsErr result) }
+{
+    match answer {
+        Ok(n) if n > 0 || is_empty => Ok(n),
+        _ => Err(Failed),
+    }
+}
+
+// One fault more where the answer is one.
+fn count_fault(faults: &mut u64, answer: &Result<usize, Failed>)
+    ensures counts { faults.new ≡ (if is_err answer.now then raised faults.old else faults.old) }
+    ensures never_falls { faults.old ≤ faults.new }
+{
+    if answer.is_err() {
+        *faults = faults.saturating_add(1);
     }
 }

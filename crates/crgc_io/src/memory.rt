@@ -1,6 +1,6 @@
 //! A source and a sink over memory, for tests: which bytes come in which call, and which calls
 //! fail, is known.
-ghost use Rattle.std.specs.Prelude.{◌≡◌, ℕ, ◌-◌, ◌<◌, ◌≤◌, ◌⊎◌, ◌↔◌, ◌++◌, [], Some, Contains, IfOk, OnErr, IsErr, length, take, drop, min, is_err};
+ghost use Rattle.std.specs.Prelude.{◌≡◌, ℕ, ◌-◌, ◌<◌, ◌≤◌, ◌⊎◌, ◌↔◌, ◌++◌, [], Some, Contains, IfOk, OnErr, OnOk, IsErr, length, take, drop, min, is_err};
 ghost use Rattle.std.specs.Io.{ReadsAtMost, WritesAtMost};
 ghost use Rattle.std.specs.Io.KnownBytes.{ReadConsumes, WriteAppends};
 ghost use Rattle.crgc_io.specs.Fault.{CountRose};
@@ -67,6 +67,7 @@ impl Source for MemorySource {
         ensures record { WriteAppends (Some self.old.given) (Some self.new.given) result buf.new }
         ensures never_falls { self.old.calls.faults ≤ self.new.calls.faults }
         ensures failed { OnErr result (CountRose self.old.calls.faults self.new.calls.faults) }
+        ensures stands { OnOk result (self.new.calls.faults ≡ self.old.calls.faults) }
         ensures fails { IsErr result ↔ Contains self.old.calls.failing self.old.calls.made }
         ensures counts { self.new.calls ≡ after_call (is_err result) self.old.calls }
         ensures count { IfOk result (λ n.
@@ -159,6 +160,7 @@ impl Sink for MemorySink {
         ensures bytes { WriteAppends (Some self.old.held) (Some self.new.held) result piece.now }
         ensures never_falls { self.old.calls.faults ≤ self.new.calls.faults }
         ensures failed { OnErr result (CountRose self.old.calls.faults self.new.calls.faults) }
+        ensures stands { OnOk result (self.new.calls.faults ≡ self.old.calls.faults) }
         ensures fails { IsErr result
             ↔ (((0 < length piece.now) × (length self.old.held ≡ self.old.room))
             ⊎ Contains self.old.calls.failing self.old.calls.made) }

@@ -1,9 +1,9 @@
 use crate::{
-    Failed, MemorySink, MemorySource, ReadAll, Source, StdSink, StdSource, WriteFault, read_all,
-    write_all,
+    Failed, MemorySink, MemorySource, ReadAll, Sink, Source, StdSink, StdSource, WriteFault,
+    read_all, write_all,
 };
 use std::io;
-use std::io::{ErrorKind, Read};
+use std::io::{ErrorKind, Read, Write};
 use std::test::Fail;
 
 #[test]
@@ -57,13 +57,68 @@ fn a_failing_write_leaves_exactly_the_bytes_written_before(rt: HostRuntime) -> R
     Ok(())
 }
 
+/// A reader whose first read fails. Each later one gives its number, from 1, where the buffer has room.
 #[derive(Drop)]
-struct Broken;
+struct FailsOnce {
+    reads: u8,
+}
 
-impl Read for Broken {
-    fn read(&mut self, _buf: &mut [u8]) -> io::Result<usize> {
-        Err(io::Error::from(ErrorKind::Other))
+impl Read for FailsOnce {
+    fn read(&mut self, buf: &mut [u8]) -> io::Result<usize> {
+        self.reads = self.reads.saturating_add(1);
+        if self.reads == 1 {
+            return Err(io::Error::from(ErrorKind::Other));
+        }
+        if buf.is_empty() {
+            return Ok(0);
+        }
+        buf[0] = self.reads;
+        Ok(1)
     }
+}
+
+#[test]
+fn a_source_over_a_reader_asks_it_once_a_call(rt: HostRuntime) -> Result<(), Fail> {
+    let mut source = StdSource::new(FailsOnce { reads: 0 });
+    let mut byte = [0];
+    assert_eq!(rt; source.read(&mut byte), Err(Failed));
+    assert_eq!(rt; (source.read(&mut byte), byte), (Ok(1), [2]));
+    assert_eq!(rt; source.read(&mut []), Ok(0));
+    assert_eq!(rt; (source.read(&mut byte), byte), (Ok(1), [4]));
+    let mut ended = StdSource::new(b"".as_slice());
+    assert_eq!(rt; ended.read(&mut byte), Ok(0), "the end is no fault");
+    Ok(())
+}
+
+/// A writer whose first write fails, whose second one takes nothing, and whose later ones take one byte at most.
+#[derive(Drop)]
+struct TakesNothingTwice {
+    writes: u8,
+}
+
+impl Write for TakesNothingTwice {
+    fn write(&mut self, piece: &[u8]) -> io::Result<usize> {
+        self.writes = self.writes.saturating_add(1);
+        match self.writes {
+            1 => Err(io::Error::from(ErrorKind::Other)),
+            2 => Ok(0),
+            _ => Ok(piece.len().min(1)),
+        }
+    }
+
+    fn flush(&mut self) -> io::Result<()> {
+        Ok(())
+    }
+}
+
+#[test]
+fn a_sink_over_a_writer_asks_it_once_a_call(rt: HostRuntime) -> Result<(), Fail> {
+    let mut sink = StdSink::new(TakesNothingTwice { writes: 0 });
+    assert_eq!(rt; sink.write(b"two"), Err(Failed));
+    assert_eq!(rt; sink.write(b"two"), Err(Failed), "it took nothing");
+    assert_eq!(rt; sink.write(b"two"), Ok(1));
+    assert_eq!(rt; sink.write(b""), Ok(0), "an empty piece is no fault");
+    Ok(())
 }
 
 #[test]
@@ -71,8 +126,6 @@ fn std_readers_and_writers_are_sources_and_sinks(rt: HostRuntime) -> Result<(), 
     let mut source = StdSource::new(b"bytes".as_slice());
     let all = read_all(rt.alloc(), &mut source, 9).ok().ok_or("memory")?;
     assert_eq!(rt; all.as_slice(), b"bytes".as_slice());
-    let mut broken = StdSource::new(Broken);
-    assert_eq!(rt; broken.read(&mut [0]), Err(Failed));
     let mut room = [0; 3];
     let mut sink = StdSink::new(room.as_mut_slice());
     assert_eq!(rt;

@@ -1,5 +1,5 @@
 //! What reads and what writes.
-ghost use Rattle.std.specs.Prelude.{◌≡◌, ℕ, ◌<◌, ◌≤◌, List, Option, length, IfOk, OnErr, take};
+ghost use Rattle.std.specs.Prelude.{◌≡◌, ℕ, ◌<◌, ◌≤◌, List, Option, length, IfOk, OnErr, OnOk, take};
 ghost use Rattle.std.specs.Io.{ReadsAtMost, WritesAtMost};
 ghost use Rattle.std.specs.Io.KnownBytes.{ReadConsumes, Appends, Keeps, WriteAppends};
 ghost use Rattle.crgc_io.specs.Fault.{CountRose};
@@ -8,7 +8,8 @@ ghost use Rattle.crgc_io.specs.Fault.{CountRose};
 #[derive(Clone, Copy, PartialEq, Eq, Debug)]
 pub struct Failed;
 
-/// Bytes that come in pieces, and a count of faults that never falls.
+/// Bytes that come in pieces, and a count of faults that never falls: it rises where a read fails, and stands where one
+/// answers Ok.
 pub trait Source {
     // the bytes that reads will give from here on, where it tells them
     ghost left: { Self → Option (List ℕ) };
@@ -26,10 +27,12 @@ pub trait Source {
         ensures bytes { ReadConsumes (left self.old) (left self.new) result buf.new }
         ensures record { WriteAppends (given self.old) (given self.new) result buf.new }
         ensures never_falls { faults self.old ≤ faults self.new }
-        ensures failed { OnErr result (CountRose (faults self.old) (faults self.new)) };
+        ensures failed { OnErr result (CountRose (faults self.old) (faults self.new)) }
+        ensures stands { OnOk result (faults self.new ≡ faults self.old) };
 }
 
-/// Where bytes go in pieces, and a count of faults that never falls.
+/// Where bytes go in pieces, and a count of faults that never falls: it rises where a write fails, and stands where one
+/// answers Ok.
 pub trait Sink {
     // the bytes that it holds, where it tells them
     ghost held: { Self → Option (List ℕ) };
@@ -44,5 +47,6 @@ pub trait Sink {
         ensures progress { IfOk result (λ n. 0 < length piece.now → 0 < n) }
         ensures bytes { WriteAppends (held self.old) (held self.new) result piece.now }
         ensures never_falls { faults self.old ≤ faults self.new }
-        ensures failed { OnErr result (CountRose (faults self.old) (faults self.new)) };
+        ensures failed { OnErr result (CountRose (faults self.old) (faults self.new)) }
+        ensures stands { OnOk result (faults self.new ≡ faults self.old) };
 }

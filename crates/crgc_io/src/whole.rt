@@ -1,8 +1,8 @@
 //! Reading to the end, and writing all.
-ghost use Rattle.std.specs.Prelude.{◌≡◌, ℕ, ◌+◌, ◌<◌, ◌≤◌, ◌++◌, List, Option, length, take, IfOk, IfErr, OnOk, Err, vec_len};
+ghost use Rattle.std.specs.Prelude.{◌≡◌, ℕ, ◌+◌, ◌<◌, ◌≤◌, ◌++◌, List, Option, length, take, IfOk, IfErr, OnOk, Ok, vec_len};
 ghost use Rattle.std.specs.Io.KnownBytes.{Appends, IsAtEnd};
 ghost use Rattle.crgc_io.specs.Fault.{CountRose};
-ghost use Rattle.crgc_io.specs.Taken.{Takes, IsCountAt};
+ghost use Rattle.crgc_io.specs.Taken.{HasCounted, IsCountAt, Takes};
 
 use crate::traits::{Failed, Sink, Source};
 use std::alloc::Global;
@@ -36,8 +36,8 @@ pub fn read_all<S: Source>(alloc: Global, source: &mut S, limit: usize) -> Resul
     ensures within { IfOk result (λ v. vec_len v ≤ limit) }
     ensures err { IfErr result (λ e. (bs : List ℕ)
         × Takes S.left S.given source.old source.new bs × IsCountAt e limit (length bs)) }
-    ensures fault { result ≡ Err ReadAll.ReadFault
-        → CountRose (S.faults source.old) (S.faults source.new) }
+    ensures stands { OnOk result (S.faults source.new ≡ S.faults source.old) }
+    ensures counted { IfErr result (λ e. HasCounted e (S.faults source.old) (S.faults source.new)) }
     ensures never_falls { S.faults source.old ≤ S.faults source.new }
 {
     match vec![in alloc; 0; PIECE] {
@@ -60,8 +60,8 @@ fn read_through<S: Source>(
     ensures within { IfOk result (λ v. vec_len v ≤ limit) }
     ensures err { IfErr result (λ e. (bs : List ℕ)
         × Takes S.left S.given source.old source.new bs × IsCountAt e limit (length bs)) }
-    ensures fault { result ≡ Err ReadAll.ReadFault
-        → CountRose (S.faults source.old) (S.faults source.new) }
+    ensures stands { OnOk result (S.faults source.new ≡ S.faults source.old) }
+    ensures counted { IfErr result (λ e. HasCounted e (S.faults source.old) (S.faults source.new)) }
     ensures never_falls { S.faults source.old ≤ S.faults source.new }
 {
     let mut bytes = Vec::new(alloc);
@@ -94,8 +94,8 @@ fn read_piece<S: Source>(
     ensures err { IfErr result (λ e. (bs : List ℕ)
         × Takes S.left S.given source.old source.new bs
         × IsCountAt e limit (vec_len bytes.old + length bs)) }
-    ensures fault { result ≡ Err ReadAll.ReadFault
-        → CountRose (S.faults source.old) (S.faults source.new) }
+    ensures stands { OnOk result (S.faults source.new ≡ S.faults source.old) }
+    ensures counted { IfErr result (λ e. HasCounted e (S.faults source.old) (S.faults source.new)) }
     ensures never_falls { S.faults source.old ≤ S.faults source.new }
 {
     let room = piece.len().min(limit - bytes.len() + 1);
@@ -115,6 +115,7 @@ pub fn write_all<K: Sink>(sink: &mut K, bytes: &[u8]) -> Result<(), WriteFault>
     ensures err { IfErr result (λ e.
         Appends (K.held sink.old) (K.held sink.new) (take e.written bytes.now)) }
     ensures before_end { IfErr result (λ e. e.written < length bytes.now) }
+    ensures stands { OnOk result (K.faults sink.new ≡ K.faults sink.old) }
     ensures fault { IfErr result (λ _. CountRose (K.faults sink.old) (K.faults sink.new)) }
     ensures never_falls { K.faults sink.old ≤ K.faults sink.new }
 {

@@ -8,20 +8,20 @@ use Rattle.std.specs.List.{AllByRecursion, list_all}
 use Rattle.std.specs.Option.{MatchOption, option_and_then, option_map}
 use Rattle.std.specs.Result.{IfOk}
 use Rattle.std.specs.Str.{bytes_eq}
-use Rattle.crgc_ids.specs.Actor.{Actor}
+use Rattle.crgc_ids.specs.Actor.{Actor, IsActor}
 use Rattle.history_model.specs.declared.events.Event.{Event}
 use Rattle.history_model.specs.declared.events.Event.TheVariants.{Seed, Tie, Wake, Take, Spawn, Send, Drop, Retire, Rest, Flush, Publish, Window, Admit, Lose, Repeat, Crash, Remove, Hand, Sweep}
-use Rattle.journal_model.specs.Lines.{actor_word, AreActorNames, event_words, IsActorName, IsSpellable, spell, event_line}
+use Rattle.journal_model.specs.Lines.{actor_word, AreActors, event_words, IsWithinRanges, spell, event_line}
 use Rattle.event_lines.specs.Events.{actor_event, event_of, line_event, link_event, node_event, pair_event}
 use Rattle.event_lines.specs.Pieces.{pieces}
 use Rattle.event_lines.specs.Shapes.{link_number, message, one_actor, one_node, two_actors, two_nodes}
 use Rattle.event_lines.proofs.FieldsLaws.{actor_word-free, decimal-free, option_map-some}
 use Rattle.event_lines.proofs.PiecesLaws.{IsFreeOf, join-pieces, pieces-join}
-use Rattle.event_lines.proofs.ShapesLaws.{link_number-some, link_number-words, message-some, message-words, one_actor-some, one_actor-words, one_node-some, one_node-words, two_actors-some, two_actors-words, two_nodes-some, two_nodes-words}
+use Rattle.event_lines.proofs.ShapesLaws.{link_number-some, link_number-words, message-some, message-words, one_actor-some, one_actor-words, one_node-some, one_node-words, two_actors-some, two_actors-words, two_nodes-some, two_nodes-words, cons-first}
 
 -- the words spell the event, and its numbers are in range
 abbrev IsReadFrom : List ℕ → List (List ℕ) → Event → Type 0
-IsReadFrom w ws e = IsSpellable e × (event_words e ≡ w ∷ ws)
+IsReadFrom w ws e = IsWithinRanges e × (event_words e ≡ w ∷ ws)
 
 -- what is read by some forms is spelled so
 abbrev IsFaithful : (List ℕ → List (List ℕ) → Option Event) → Type 0
@@ -56,7 +56,7 @@ link-some w ws e r =
 pair-some : IsFaithful pair_event
 unfolding pair_event
 pair-some w ws e r =
-    let actors = form-some two_actors (λ p. IsActorName p.0 × IsActorName p.1) (λ p. actor_word p.0 ∷ actor_word p.1 ∷ []) two_actors-some in
+    let actors = form-some two_actors (λ p. IsActor p.0 × IsActor p.1) (λ p. actor_word p.0 ∷ actor_word p.1 ∷ []) two_actors-some in
     let nodes = form-some two_nodes (λ p. (p.0 < 16) × (p.1 < 16)) (λ p. decimal p.0 ∷ decimal p.1 ∷ []) two_nodes-some in
     actors (codes "tie") (λ p. Tie p.0 p.1) (λ x h. (h, refl)) _ w ws e
     (actors (codes "drop") (λ p. Drop p.0 p.1) (λ x h. (h, refl)) _ w ws e
@@ -77,7 +77,7 @@ node-some w ws e r =
 actor-some : IsFaithful actor_event
 unfolding actor_event
 actor-some w ws e r =
-    let form = form-some one_actor IsActorName (λ a. actor_word a ∷ []) one_actor-some in
+    let form = form-some one_actor IsActor (λ a. actor_word a ∷ []) one_actor-some in
     form (codes "take") Take (λ x h. (h, refl)) _ w ws e
     (form (codes "rest") Rest (λ x h. (h, refl)) _ w ws e
     (form (codes "spawn") Spawn (λ x h. (h, refl)) _ w ws e
@@ -89,11 +89,11 @@ actor-some w ws e r =
 event-some : IsFaithful event_of
 unfolding event_of
 event-some w ws e r =
-    form-some message (λ m. IsActorName m.0 × IsActorName m.1 × AreActorNames m.2 × (length m.2 ≤ 16)) (λ m. actor_word m.0 ∷ actor_word m.1 ∷ map actor_word m.2) message-some
+    form-some message (λ m. IsActor m.0 × IsActor m.1 × AreActors m.2 × (length m.2 ≤ 16)) (λ m. actor_word m.0 ∷ actor_word m.1 ∷ map actor_word m.2) message-some
     (codes "send") (λ m. Send m.0 m.1 m.2) (λ x h. (h, refl)) (actor_event w ws) w ws e (actor-some w ws e) r
 
 -- each event is read from its words
-line_event-words : (e : Event) → IsSpellable e → line_event (event_words e) ≡ Some e
+line_event-words : (e : Event) → IsWithinRanges e → line_event (event_words e) ≡ Some e
 unfolding event_of actor_event node_event pair_event link_event
 line_event-words (Seed n) h = ap (option_map Seed) (one_node-words n h)
 line_event-words (Tie a b) h = ap (option_map (λ p. Tie p.0 p.1)) (two_actors-words a b h.0 h.1)
@@ -130,17 +130,17 @@ free_bytes (b ∷ w) t =
 node-free : (n : ℕ) → n < 16 → IsFreeOf 32 (decimal n)
 node-free n h = decimal-free 32 n (omega arith) (omega arith)
 
-names-free : (as_ : List Actor) → AreActorNames as_ → AllByRecursion (IsFreeOf 32) (map actor_word as_)
+names-free : (as_ : List Actor) → AreActors as_ → AllByRecursion (IsFreeOf 32) (map actor_word as_)
 names-free [] h = tt
 names-free (a ∷ as_) h = (actor_word-free a h.0, names-free as_ h.1)
 
 node_word : (name : List ℕ) (n : ℕ) → list_all (λ b. not (eqb b 32)) name ≡ true → n < 16 → AllByRecursion (IsFreeOf 32) (name ∷ decimal n ∷ [])
 node_word name n t h = (free_bytes name t, (node-free n h, tt))
 
-actor_name : (name : List ℕ) (a : Actor) → list_all (λ b. not (eqb b 32)) name ≡ true → IsActorName a → AllByRecursion (IsFreeOf 32) (name ∷ actor_word a ∷ [])
+actor_name : (name : List ℕ) (a : Actor) → list_all (λ b. not (eqb b 32)) name ≡ true → IsActor a → AllByRecursion (IsFreeOf 32) (name ∷ actor_word a ∷ [])
 actor_name name a t h = (free_bytes name t, (actor_word-free a h, tt))
 
-actor_names : (name : List ℕ) (a b : Actor) (refs : List Actor) → list_all (λ b. not (eqb b 32)) name ≡ true → IsActorName a → IsActorName b → AreActorNames refs → AllByRecursion (IsFreeOf 32) (name ∷ actor_word a ∷ actor_word b ∷ map actor_word refs)
+actor_names : (name : List ℕ) (a b : Actor) (refs : List Actor) → list_all (λ b. not (eqb b 32)) name ≡ true → IsActor a → IsActor b → AreActors refs → AllByRecursion (IsFreeOf 32) (name ∷ actor_word a ∷ actor_word b ∷ map actor_word refs)
 actor_names name a b refs t g h names = (free_bytes name t, (actor_word-free a g, (actor_word-free b h, names-free refs names)))
 
 node_words : (name : List ℕ) (m n : ℕ) → list_all (λ b. not (eqb b 32)) name ≡ true → m < 16 → n < 16 → AllByRecursion (IsFreeOf 32) (name ∷ decimal m ∷ decimal n ∷ [])
@@ -149,7 +149,7 @@ node_words name m n t g h = (free_bytes name t, (node-free m g, (node-free n h, 
 link_words : (name : List ℕ) (m n k : ℕ) → list_all (λ b. not (eqb b 32)) name ≡ true → m < 16 → n < 16 → k < 2 ^ 32 → AllByRecursion (IsFreeOf 32) (name ∷ decimal m ∷ decimal n ∷ decimal k ∷ [])
 link_words name m n k t g h l = (free_bytes name t, (node-free m g, (node-free n h, (decimal-free 32 k (omega arith) l, tt))))
 
-event_words-free : (e : Event) → IsSpellable e → AllByRecursion (IsFreeOf 32) (event_words e)
+event_words-free : (e : Event) → IsWithinRanges e → AllByRecursion (IsFreeOf 32) (event_words e)
 event_words-free (Seed n) h = node_word (codes "seed") n refl h
 event_words-free (Tie a b) h = actor_names (codes "tie") a b [] refl h.0 h.1 tt
 event_words-free (Wake a) h = actor_name (codes "wake") a refl h
@@ -175,28 +175,25 @@ pieces-words [] e r free = absurd (none-some e r)
 pieces-words (w ∷ ws) e r free = pieces-join 32 w ws free
 
 -- an event is read from its line
-pub line_event-spell : (e : Event) → IsSpellable e → line_event (pieces 32 (event_line e)) ≡ Some e
+pub line_event-spell : (e : Event) → IsWithinRanges e → line_event (pieces 32 (event_line e)) ≡ Some e
 line_event-spell e h =
     let r = line_event-words e h in
     ap line_event (pieces-words (event_words e) e r (event_words-free e h)) ∙ r
 
 -- and what is read from a line spells it
-pub line_event-some : (line : List ℕ) (e : Event) → line_event (pieces 32 line) ≡ Some e → IsSpellable e × (event_line e ≡ line)
+pub line_event-some : (line : List ℕ) (e : Event) → line_event (pieces 32 line) ≡ Some e → IsWithinRanges e × (event_line e ≡ line)
 line_event-some line e r =
     let words = pieces 32 line in
     option_and_then_some _ _ e r (λ w first made.
     let from = event-some w (drop 1 words) e made in
-    (from.0, ap spell (from.1 ∙ cons-words words w first) ∙ join-pieces 32 line)) where
-      cons-words : (ws : List (List ℕ)) (w : List ℕ) → slice_get ws 0 ≡ Some w → w ∷ drop 1 ws ≡ ws
-      cons-words [] w e' = absurd (none-some w e')
-      cons-words (v ∷ ws) w e' = ap (λ x. x ∷ ws) (sym (same_Some v w e'))
+    (from.0, ap spell (from.1 ∙ sym (cons-first words w (sym first))) ∙ join-pieces 32 line))
 
 -- no two events are spelled alike
-pub spell-injective : (e f : Event) → IsSpellable e → IsSpellable f → event_line e ≡ event_line f → e ≡ f
+pub spell-injective : (e f : Event) → IsWithinRanges e → IsWithinRanges f → event_line e ≡ event_line f → e ≡ f
 spell-injective e f g h same = same_Some e f (sym (line_event-spell e g) ∙ ap (λ l. line_event (pieces 32 l)) same ∙ line_event-spell f h)
 
 -- what reading answers
-pub line_event-match : (line : List ℕ) (o : Option Event) → o ≡ line_event (pieces 32 line) → MatchOption o ((e : Event) → IsSpellable e → event_line e ≡ line → ⊥) (λ e. IsSpellable e × (event_line e ≡ line))
+pub line_event-match : (line : List ℕ) (o : Option Event) → o ≡ line_event (pieces 32 line) → MatchOption o ((e : Event) → IsWithinRanges e → event_line e ≡ line → ⊥) (λ e. IsWithinRanges e × (event_line e ≡ line))
 line_event-match line (Some e) r = line_event-some line e (sym r)
 line_event-match line None r = λ e h same. none-some e (r ∙ ap (λ l. line_event (pieces 32 l)) (sym same) ∙ line_event-spell e h)
 
@@ -209,6 +206,6 @@ pub line_event-none : (line : List ℕ) (ws : List (List ℕ)) → ws ≡ pieces
 line_event-none line ws all none = ap (option_and_then (λ v. event_of v (drop 1 ws))) none ∙ ap line_event all
 
 -- the same where reading may want memory
-pub line_event-read : {E : Type 0} (line : List ℕ) (r : Result (Option Event) E) (read : Option Event) → read ≡ line_event (pieces 32 line) → IfOk r (λ o. o ≡ read) → IfOk r (λ o. MatchOption o ((e : Event) → IsSpellable e → event_line e ≡ line → ⊥) (λ e. IsSpellable e × (event_line e ≡ line)))
+pub line_event-read : {E : Type 0} (line : List ℕ) (r : Result (Option Event) E) (read : Option Event) → read ≡ line_event (pieces 32 line) → IfOk r (λ o. o ≡ read) → IfOk r (λ o. MatchOption o ((e : Event) → IsWithinRanges e → event_line e ≡ line → ⊥) (λ e. IsWithinRanges e × (event_line e ≡ line)))
 line_event-read line (Ok o) read same h = line_event-match line o (h ∙ same)
 line_event-read line (Err e) read same h = tt

@@ -14,8 +14,8 @@ use Rattle.std.specs.List.{join_with_byte}
 use Rattle.std.specs.Option.{IfNone, IfSome, option_map}
 use Rattle.std.specs.Str.{bytes_eq}
 use Rattle.std.specs.Str.Parse.{AllDigits, digits_value}
-use Rattle.crgc_ids.specs.Actor.{Actor}
-use Rattle.journal_model.specs.Lines.{actor_word, IsActorName}
+use Rattle.crgc_ids.specs.Actor.{Actor, IsActor}
+use Rattle.journal_model.specs.Lines.{actor_word}
 use Rattle.event_lines.specs.Fields.{actor_of, actor_of_parts, first_actor, first_number, number_of}
 use Rattle.event_lines.specs.Pieces.{nothing_left, pieces}
 use Rattle.event_lines.proofs.PiecesLaws.{IsFreeOf, join-pieces, pieces-join}
@@ -64,13 +64,13 @@ free-append c [] w f g = g
 free-append c (b ∷ v) w f g = (f.0, free-append c v w f.1 g)
 
 -- an actor's word has no space
-pub actor_word-free : (a : Actor) → IsActorName a → IsFreeOf 32 (actor_word a)
+pub actor_word-free : (a : Actor) → IsActor a → IsFreeOf 32 (actor_word a)
 actor_word-free a name =
     free-append 32 (decimal a.node) (46 ∷ decimal a.serial) (decimal-free 32 a.node (omega arith) (omega (arith, name.0)))
     ((λ e. omega arith), decimal-free 32 a.serial (omega arith) (omega (arith, name.1)))
 
 -- an actor is read from its spelling
-pub actor_of-word : (a : Actor) → IsActorName a → actor_of (actor_word a) ≡ Some a
+pub actor_of-word : (a : Actor) → IsActor a → actor_of (actor_word a) ≡ Some a
 unfolding actor_of
 actor_of-word a name =
     let parts : pieces 46 (actor_word a) ≡ decimal a.node ∷ decimal a.serial ∷ [] =
@@ -93,7 +93,7 @@ pub option_map-some : {A B : Type 0} (f : A → B) (o : Option A) (y : B) → op
 option_map-some f None y e = absurd (none-some y e)
 option_map-some f (Some x) y e = (x, refl, same_Some (f x) y e)
 
-parts-some : (a : Actor) (ws : List (List ℕ)) → actor_of_parts ws ≡ Some a → IsActorName a × (ws ≡ decimal a.node ∷ decimal a.serial ∷ [])
+parts-some : (a : Actor) (ws : List (List ℕ)) → actor_of_parts ws ≡ Some a → IsActor a × (ws ≡ decimal a.node ∷ decimal a.serial ∷ [])
 parts-some a ws e =
     option_and_then_some _ _ a e (λ n en e'. option_and_then_some _ _ a e' (λ s es em.
     let node = first_number-some 16 n ws en in
@@ -103,17 +103,17 @@ parts-some a ws e =
     let b : Actor = record { node = n; serial = s } in
     let same : b ≡ a = end.2 in
     let spelled : ws ≡ decimal n ∷ decimal s ∷ [] = node.1 ∙ ap (λ l. decimal n ∷ l) (serial.1 ∙ ap (λ l. decimal s ∷ l) none) in
-    subst (λ (x : Actor). IsActorName x × (ws ≡ decimal x.node ∷ decimal x.serial ∷ [])) same ((node.0, serial.0), spelled)))
+    subst (λ (x : Actor). IsActor x × (ws ≡ decimal x.node ∷ decimal x.serial ∷ [])) same ((node.0, serial.0), spelled)))
 
 -- an actor that is read is spelled so
-pub actor_of-some : (a : Actor) (w : List ℕ) → actor_of w ≡ Some a → IsActorName a × (actor_word a ≡ w)
+pub actor_of-some : (a : Actor) (w : List ℕ) → actor_of w ≡ Some a → IsActor a × (actor_word a ≡ w)
 unfolding actor_of
 actor_of-some a w e =
     let s = parts-some a (pieces 46 w) e in
     (s.0, ap (join_with_byte 46) (sym s.1) ∙ join-pieces 46 w)
 
 -- the actor that the first word says, and the words after it
-pub first_actor-some : (a : Actor) (ws : List (List ℕ)) → first_actor ws ≡ Some a → IsActorName a × (ws ≡ actor_word a ∷ drop 1 ws)
+pub first_actor-some : (a : Actor) (ws : List (List ℕ)) → first_actor ws ≡ Some a → IsActor a × (ws ≡ actor_word a ∷ drop 1 ws)
 first_actor-some a [] e = absurd (none-some a e)
 first_actor-some a (w ∷ ws) e = let s = actor_of-some a w e in (s.0, ap (λ v. v ∷ ws) (sym s.1))
 

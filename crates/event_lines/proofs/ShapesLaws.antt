@@ -4,8 +4,8 @@ use Rattle.std.proofs.lemmas.Bool.{le-ltb, lt-ltb, ltb-true}
 use Rattle.std.proofs.lemmas.Option.{none-some, same_Some, option_and_then_some}
 use Rattle.std.specs.Fmt.{decimal}
 use Rattle.std.specs.Option.{option_and_then}
-use Rattle.crgc_ids.specs.Actor.{Actor}
-use Rattle.journal_model.specs.Lines.{actor_word, AreActorNames, IsActorName}
+use Rattle.crgc_ids.specs.Actor.{Actor, IsActor}
+use Rattle.journal_model.specs.Lines.{actor_word, AreActors}
 use Rattle.event_lines.specs.Fields.{actor_of}
 use Rattle.event_lines.specs.Shapes.{link_number, message, one_actor, one_node, references_after, two_actors, two_nodes}
 use Rattle.event_lines.proofs.FieldsLaws.{actor_of-some, actor_of-word, first_actor-some, first_number-some, nothing_left-some, number_of-decimal, option_map-some}
@@ -15,27 +15,27 @@ use Rattle.event_lines.proofs.FieldsLaws.{actor_of-some, actor_of-word, first_ac
 pub one_node-words : (n : ℕ) → n < 16 → one_node (decimal n ∷ []) ≡ Some n
 one_node-words n h = rw (number_of-decimal 16 n (omega arith) h) refl
 
-pub one_actor-words : (a : Actor) → IsActorName a → one_actor (actor_word a ∷ []) ≡ Some a
+pub one_actor-words : (a : Actor) → IsActor a → one_actor (actor_word a ∷ []) ≡ Some a
 one_actor-words a h = rw (actor_of-word a h) refl
 
 pub two_nodes-words : (m n : ℕ) → m < 16 → n < 16 → two_nodes (decimal m ∷ decimal n ∷ []) ≡ Some (m, n)
 two_nodes-words m n g h = rw (number_of-decimal 16 m (omega arith) g) (rw (number_of-decimal 16 n (omega arith) h) refl)
 
-pub two_actors-words : (a b : Actor) → IsActorName a → IsActorName b → two_actors (actor_word a ∷ actor_word b ∷ []) ≡ Some (a, b)
+pub two_actors-words : (a b : Actor) → IsActor a → IsActor b → two_actors (actor_word a ∷ actor_word b ∷ []) ≡ Some (a, b)
 two_actors-words a b g h = rw (actor_of-word a g) (rw (actor_of-word b h) refl)
 
 pub link_number-words : (m n k : ℕ) → m < 16 → n < 16 → k < 2 ^ 32 → link_number (decimal m ∷ decimal n ∷ decimal k ∷ []) ≡ Some (m, n, k)
 link_number-words m n k g h l =
     rw (number_of-decimal 16 m (omega arith) g) (rw (number_of-decimal 16 n (omega arith) h) (rw (number_of-decimal (2 ^ 32) k (omega arith) l) refl))
 
-references-words : (refs as_ : List Actor) → AreActorNames as_ → length refs + length as_ ≤ 16 → references_after refs (map actor_word as_) ≡ Some (refs ++ as_)
+references-words : (refs as_ : List Actor) → AreActors as_ → length refs + length as_ ≤ 16 → references_after refs (map actor_word as_) ≡ Some (refs ++ as_)
 references-words refs [] names room = ap Some (sym (append-nil refs))
 references-words refs (a ∷ as_) names room =
     rw (lt-ltb (length refs) 16 (omega arith))
     (rw (actor_of-word a names.0)
     (references-words (refs ++ a ∷ []) as_ names.1 (omega (arith, length-append refs (a ∷ []))) ∙ ap Some (append_assoc refs (a ∷ []) as_)))
 
-pub message-words : (a b : Actor) (refs : List Actor) → IsActorName a → IsActorName b → AreActorNames refs → length refs ≤ 16 → message (actor_word a ∷ actor_word b ∷ map actor_word refs) ≡ Some (a, b, refs)
+pub message-words : (a b : Actor) (refs : List Actor) → IsActor a → IsActor b → AreActors refs → length refs ≤ 16 → message (actor_word a ∷ actor_word b ∷ map actor_word refs) ≡ Some (a, b, refs)
 message-words a b refs g h names room =
     let read = references-words [] refs names (omega arith) in
     rw (actor_of-word a g) (rw (actor_of-word b h) (rw read refl))
@@ -50,13 +50,13 @@ one_node-some ws n e = option_and_then_some _ _ n e (λ m em rest.
     let same : m ≡ n = end.2 in
     subst (λ (x : ℕ). (x < 16) × (ws ≡ decimal x ∷ [])) same (node.0, node.1 ∙ ap (λ l. decimal m ∷ l) none))
 
-pub one_actor-some : (ws : List (List ℕ)) (a : Actor) → one_actor ws ≡ Some a → IsActorName a × (ws ≡ actor_word a ∷ [])
+pub one_actor-some : (ws : List (List ℕ)) (a : Actor) → one_actor ws ≡ Some a → IsActor a × (ws ≡ actor_word a ∷ [])
 one_actor-some ws a e = option_and_then_some _ _ a e (λ b eb rest.
     let actor = first_actor-some b ws eb in
     let end = option_map-some _ _ a rest in
     let none = nothing_left-some (drop 1 ws) end.0 end.1 in
     let same : b ≡ a = end.2 in
-    subst (λ (x : Actor). IsActorName x × (ws ≡ actor_word x ∷ [])) same (actor.0, actor.1 ∙ ap (λ l. actor_word b ∷ l) none))
+    subst (λ (x : Actor). IsActor x × (ws ≡ actor_word x ∷ [])) same (actor.0, actor.1 ∙ ap (λ l. actor_word b ∷ l) none))
 
 pub two_nodes-some : (ws : List (List ℕ)) (p : ℕ × ℕ) → two_nodes ws ≡ Some p → ((p.0 < 16) × (p.1 < 16)) × (ws ≡ decimal p.0 ∷ decimal p.1 ∷ [])
 two_nodes-some ws p e = option_and_then_some _ _ p e (λ m em e'. option_and_then_some _ _ p e' (λ n en rest.
@@ -69,7 +69,7 @@ two_nodes-some ws p e = option_and_then_some _ _ p e (λ m em e'. option_and_the
     subst (λ (x : ℕ × ℕ). ((x.0 < 16) × (x.1 < 16)) × (ws ≡ decimal x.0 ∷ decimal x.1 ∷ [])) same
     ((first.0, second.0), first.1 ∙ ap (λ l. decimal m ∷ l) (second.1 ∙ ap (λ l. decimal n ∷ l) none))))
 
-pub two_actors-some : (ws : List (List ℕ)) (p : Actor × Actor) → two_actors ws ≡ Some p → (IsActorName p.0 × IsActorName p.1) × (ws ≡ actor_word p.0 ∷ actor_word p.1 ∷ [])
+pub two_actors-some : (ws : List (List ℕ)) (p : Actor × Actor) → two_actors ws ≡ Some p → (IsActor p.0 × IsActor p.1) × (ws ≡ actor_word p.0 ∷ actor_word p.1 ∷ [])
 two_actors-some ws p e = option_and_then_some _ _ p e (λ a ea e'. option_and_then_some _ _ p e' (λ b eb rest.
     let first = first_actor-some a ws ea in
     let second = first_actor-some b (drop 1 ws) eb in
@@ -77,7 +77,7 @@ two_actors-some ws p e = option_and_then_some _ _ p e (λ a ea e'. option_and_th
     let none = nothing_left-some (drop 1 (drop 1 ws)) end.0 end.1 in
     let q : Actor × Actor = (a, b) in
     let same : q ≡ p = end.2 in
-    subst (λ (x : Actor × Actor). (IsActorName x.0 × IsActorName x.1) × (ws ≡ actor_word x.0 ∷ actor_word x.1 ∷ [])) same
+    subst (λ (x : Actor × Actor). (IsActor x.0 × IsActor x.1) × (ws ≡ actor_word x.0 ∷ actor_word x.1 ∷ [])) same
     ((first.0, second.0), first.1 ∙ ap (λ l. actor_word a ∷ l) (second.1 ∙ ap (λ l. actor_word b ∷ l) none))))
 
 pub link_number-some : (ws : List (List ℕ)) (p : ℕ × ℕ × ℕ) → link_number ws ≡ Some p → ((p.0 < 16) × (p.1 < 16) × (p.2 < 2 ^ 32)) × (ws ≡ decimal p.0 ∷ decimal p.1 ∷ decimal p.2 ∷ [])
@@ -96,7 +96,7 @@ link_number-some ws p e = option_and_then_some _ _ p e (λ m em e'. option_and_t
 pub record ReadsAfter (refs : List Actor) (ws : List (List ℕ)) (all : List Actor) : Type 0 where
   pub others : List Actor
   pub is_all : all ≡ refs ++ others
-  pub names : AreActorNames others
+  pub names : AreActors others
   pub spelled : ws ≡ map actor_word others
   pub room : length refs ≤ 16 → length all ≤ 16
 
@@ -122,7 +122,7 @@ references-some refs (w ∷ ws) all e =
       room = λ h. later.room (omega (arith, length-append refs (a ∷ [])));
     })
 
-pub message-some : (ws : List (List ℕ)) (m : Actor × Actor × List Actor) → message ws ≡ Some m → (IsActorName m.0 × IsActorName m.1 × AreActorNames m.2 × (length m.2 ≤ 16)) × (ws ≡ actor_word m.0 ∷ actor_word m.1 ∷ map actor_word m.2)
+pub message-some : (ws : List (List ℕ)) (m : Actor × Actor × List Actor) → message ws ≡ Some m → (IsActor m.0 × IsActor m.1 × AreActors m.2 × (length m.2 ≤ 16)) × (ws ≡ actor_word m.0 ∷ actor_word m.1 ∷ map actor_word m.2)
 message-some ws m e = option_and_then_some _ _ m e (λ a ea e'. option_and_then_some _ _ m e' (λ b eb rest.
     let first = first_actor-some a ws ea in
     let second = first_actor-some b (drop 1 ws) eb in
@@ -131,12 +131,13 @@ message-some ws m e = option_and_then_some _ _ m e (λ a ea e'. option_and_then_
     let all : end.0 ≡ read.others = read.is_all in
     let q : Actor × Actor × List Actor = (a, b, end.0) in
     let same : q ≡ m = end.2 in
-    subst (λ (x : Actor × Actor × List Actor). (IsActorName x.0 × IsActorName x.1 × AreActorNames x.2 × (length x.2 ≤ 16)) × (ws ≡ actor_word x.0 ∷ actor_word x.1 ∷ map actor_word x.2)) same (
-      (first.0, second.0, subst AreActorNames (sym all) read.names, read.room (omega arith)),
+    subst (λ (x : Actor × Actor × List Actor). (IsActor x.0 × IsActor x.1 × AreActors x.2 × (length x.2 ≤ 16)) × (ws ≡ actor_word x.0 ∷ actor_word x.1 ∷ map actor_word x.2)) same (
+      (first.0, second.0, subst AreActors (sym all) read.names, read.room (omega arith)),
       first.1 ∙ ap (λ l. actor_word a ∷ l) (second.1 ∙ ap (λ l. actor_word b ∷ l) (read.spelled ∙ ap (map actor_word) (sym all))),
     )))
 
-cons-first : (ws : List (List ℕ)) (w : List ℕ) → Some w ≡ slice_get ws 0 → ws ≡ w ∷ drop 1 ws
+-- words whose first one is there
+pub cons-first : (ws : List (List ℕ)) (w : List ℕ) → Some w ≡ slice_get ws 0 → ws ≡ w ∷ drop 1 ws
 cons-first [] w e = absurd (none-some w (sym e))
 cons-first (v ∷ ws) w e = ap (λ x. x ∷ ws) (same_Some v w (sym e))
 

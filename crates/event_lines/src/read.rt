@@ -2,7 +2,7 @@
 ghost use Rattle.std.specs.Prelude.{◌≡◌, IfOk, MatchOption};
 ghost use Rattle.event_lines.specs.Events.{actor_event, event_of, link_event, node_event, pair_event};
 ghost use Rattle.history_model.specs.declared.events.Event.{Event as AnyEvent};
-ghost use Rattle.journal_model.specs.Lines.{IsSpellable, event_line};
+ghost use Rattle.journal_model.specs.Lines.{IsWithinRanges, event_line};
 
 use crate::pieces::Pieces;
 use crgc_ids::NoMemory;
@@ -13,8 +13,8 @@ use std::alloc::Global;
 /// It takes memory for at most 16 references.
 pub fn read_event(alloc: Global, line: &[u8]) -> Result<Option<Event>, NoMemory>
     ensures { IfOk result (λ o. MatchOption o
-        ((e : AnyEvent) → IsSpellable e → event_line e ≡ line.now → ⊥)
-        (λ e. IsSpellable e × (event_line e ≡ line.now))) }
+        ((e : AnyEvent) → IsWithinRanges e → event_line e ≡ line.now → ⊥)
+        (λ e. IsWithinRanges e × (event_line e ≡ line.now))) }
 {
     let mut words = Pieces::of(line, b' ');
     match words.next() {

@@ -82,10 +82,10 @@ impl LinkRows {
     }
 
     /// Whether the row is one of the list. Logarithmic time.
-    pub fn contains(&self, row: LinkRow) -> bool
-        ensures { result ≡ list_any (same_row row) self.now }
+    pub fn contains(&self, row: &LinkRow) -> bool
+        ensures { result ≡ list_any (same_row row.now) self.now }
     {
-        self.index.contains(&row)
+        self.index.contains(row)
     }
 
     /// How many rows it has.

@@ -15,7 +15,7 @@ fn each_row_is_used_once(rt: HostRuntime) -> Result<(), Fail> {
     let mut losses = LinkRows::new(rt.alloc());
     losses.push(row)?;
     let repeats = losses.copy()?;
-    assert!(rt; repeats.contains(row));
+    assert!(rt; repeats.contains(&row));
     assert_eq!(rt;
         (repeats.len(), repeats.get(0), repeats.iter().count()),
         (1, Some(&row), 1)

@@ -15,10 +15,11 @@ use Rattle.history_model.specs.declared.records.StateRow.{StateRow}
 use Rattle.wire_grammar.specs.declared.fault.WireFault.{WireFault}
 use Rattle.wire_grammar.specs.Fields.{◌>>=◌, Reader, is_above, rows_at}
 use Rattle.wire_grammar.specs.Reading.{is_pair_below}
-use Rattle.wire_grammar.proofs.Rows.{all_like, pair_below-decides}
+use Rattle.wire_grammar.proofs.Rows.{pair_below-decides}
 use Rattle.graph_wire.specs.Gives.{Fails, with_front}
 use Rattle.graph_wire.specs.declared.fault.ReadFault.{ReadFault}
 use Rattle.graph_wire.specs.declared.fault.ReadFault.TheVariants as faults
+use Rattle.crgc_ids.proofs.MembersLaws.{all-implied}
 
 -- before the first row
 pub nothing-before : {X : Type 0} (read : Result (List X × Place) WireFault) → with_front [] read ≡ read
@@ -83,7 +84,7 @@ module _ {X K : Type 0} (key : X → K) (below : K → K → Bool) (Above : X �
     ready-push : (last : Option K) (rows : List X) (y : X) → AreReady key below Above last rows → is_above below last (key y) ≡ true → AreReady key below Above (Some (key y)) (rows ++ y ∷ [])
     ready-push last rows y h t = record {
       rise = ready-rises last rows y h t;
-      cap = λ z k. let yz = (up y z).0 k in All-push (λ x. Above x z) rows y (all_like (λ x. Above x y) (λ x. Above x z) (λ x g. trans x y z g yz) rows (h.cap y t)) yz;
+      cap = λ z k. let yz = (up y z).0 k in All-push (λ x. Above x z) rows y (all-implied (λ x. Above x y) (λ x. Above x z) (λ x g. trans x y z g yz) rows (h.cap y t)) yz;
     }
 
 -- ---- a table's actors, and the three kinds of rows

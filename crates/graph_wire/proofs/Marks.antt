@@ -6,13 +6,12 @@ use Rattle.std.proofs.lemmas.List.{append-nil, drop_all, length-map, map_push}
 use Rattle.std.proofs.lemmas.List.Concat.{flat_map-cons}
 use Rattle.std.proofs.lemmas.List.Folds.{list_any-append}
 use Rattle.crgc_ids.specs.Actor.{Actor, IsActorBelow, same_actor}
-use Rattle.crgc_ids.proofs.ActorLaws.{IsActorBelow-apart, same_actor-decides}
+use Rattle.crgc_ids.proofs.ActorLaws.{IsActorBelow-apart, same_actor-decides, same_actor-apart}
 use Rattle.wire_grammar.specs.Reading.{unnamed}
-use Rattle.wire_grammar.proofs.Rows.{all_like}
 use Rattle.wire_grammar.proofs.Tables.{IsTable}
 use Rattle.graph_wire.specs.Marks.{actors_of, AreNamed, IsFresh, is_marked, Marks}
 use Rattle.graph_wire.specs.declared.table.TableActor.{TableActor}
-use Rattle.graph_wire.proofs.Sorting.{not_same}
+use Rattle.crgc_ids.proofs.MembersLaws.{all-implied}
 
 -- ---- truth values
 
@@ -131,7 +130,7 @@ below-unmarked : (a : Actor) (table : List TableActor) → AllByRecursion (IsAct
 unfolding actors_of is_marked
 below-unmarked a [] h = refl
 below-unmarked a (x ∷ rest) h =
-    let one = not_same a x.actor (λ e. IsActorBelow-apart a (subst (IsActorBelow a) (sym e) h.0)) in
+    let one = same_actor-apart a x.actor (λ e. IsActorBelow-apart a (subst (IsActorBelow a) (sym e) h.0)) in
     rw one (below-unmarked a rest h.1)
 
 -- a first entry changes nothing for the later ones
@@ -140,7 +139,7 @@ later-marks : (x : TableActor) (table later : List TableActor) → AllByRecursio
 unfolding actors_of is_marked
 later-marks x table [] h k = tt
 later-marks x table (y ∷ later) h k =
-    let one = not_same y.actor x.actor (λ e. IsActorBelow-apart y.actor (subst (λ a. IsActorBelow a y.actor) (sym e) h.0)) in
+    let one = same_actor-apart y.actor x.actor (λ e. IsActorBelow-apart y.actor (subst (λ a. IsActorBelow a y.actor) (sym e) h.0)) in
     (rw one k.0, later-marks x table later h.1 k.1)
 
 -- in a rising table each entry tells of its actor
@@ -157,7 +156,7 @@ entries-tell (x ∷ rest) h =
 pub AreNamed-from : (names : List Actor) (fresh table : List TableActor) → IsFresh fresh → Marks names fresh table → AreNamed names table
 AreNamed-from names fresh table h k =
     let told = entries-tell table (subst IsTable (sym k.actors) h.rise) in
-    all_like (λ (e : TableActor). is_marked table e.actor ≡ e.named) (λ (e : TableActor). list_any (same_actor e.actor) names ≡ e.named)
+    all-implied (λ (e : TableActor). is_marked table e.actor ≡ e.named) (λ (e : TableActor). list_any (same_actor e.actor) names ≡ e.named)
     (λ e s. sym (or_false (list_any (same_actor e.actor) names)) ∙ ap (λ b. list_any (same_actor e.actor) names || b) (sym (no-marks fresh e.actor h.unmarked)) ∙ sym (k.named e.actor) ∙ s)
     table told
 

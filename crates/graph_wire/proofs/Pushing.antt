@@ -2,16 +2,14 @@
 use Rattle.std.proofs.Common.{◌≡◌, List, [], ◌∷◌, ◌++◌, Result, Ok, Err, inl, inr}
 use Rattle.std.specs.Prelude.{OnOk}
 use Rattle.std.specs.List.{AllByRecursion}
-use Rattle.crgc_ids.specs.Actor.{Actor}
+use Rattle.crgc_ids.specs.Actor.{Actor, IsActor}
 use Rattle.crgc_ids.specs.Members.{IsPart}
 use Rattle.crgc_ids.specs.declared.rising.PairCount.{PairCount}
-use Rattle.crgc_ids.proofs.MembersLaws.{all-member, IsAmong-append_cases, IsAmong-append_left, IsAmong-append_right}
+use Rattle.crgc_ids.proofs.MembersLaws.{all-member, IsAmong-append_cases, IsAmong-append_left, IsAmong-append_right, all-from_members}
 use Rattle.history_model.proofs.Lists.{IsAmong-flat_map, IsAmong-from_flat_map}
 use Rattle.history_model.specs.declared.records.Delta.{Delta}
 use Rattle.history_model.specs.declared.records.Window.{Window}
 use Rattle.wire_grammar.specs.Named.{count_names, delta_names, pair_names, state_names, table_of, window_names}
-use Rattle.wire_grammar.specs.Spellable.{IsActor}
-use Rattle.wire_grammar.proofs.Names.{all-from_each}
 use Rattle.wire_grammar.proofs.Tables.{table-same, table_of-has, table_of-only, table_of-rises}
 use Rattle.graph_wire.specs.Pushed.{owner_names, pushed_delta, pushed_pairs, pushed_window, target_names}
 
@@ -69,7 +67,7 @@ members-table xs ys h =
     (λ x m. table_of-has x xs (h.1 x (table_of-only x ys m)))
 
 pub members-actors : (xs ys : List Actor) → SameMembers xs ys → AllByRecursion IsActor xs → AllByRecursion IsActor ys
-members-actors xs ys h all = all-from_each IsActor ys (λ x m. all-member IsActor x xs all (h.1 x m))
+members-actors xs ys h all = all-from_members IsActor ys (λ x m. all-member IsActor x xs all (h.1 x m))
 
 pub on_ok : {A E : Type 0} (P : Type 0) (r : Result A E) → P → OnOk r P
 on_ok P (Ok x) p = p

@@ -1,24 +1,24 @@
 -- The numbers of rows and of a table's actors have room in the bulletin's form.
 use Rattle.std.proofs.Common.{◌≡◌, ◌⊎◌, ℕ, Bool, ltb, List, ◌++◌, length, sym, ap, subst, ◌∙◌, inl, inr, arith}
 use Rattle.std.specs.List.{AllByRecursion}
-use Rattle.crgc_ids.specs.Actor.{Actor}
+use Rattle.crgc_ids.specs.Actor.{Actor, IsActor}
 use Rattle.crgc_ids.specs.Members.{IsAmong, IsPart}
 use Rattle.crgc_ids.specs.declared.rising.ActorCount.{ActorCount}
-use Rattle.crgc_ids.proofs.MembersLaws.{all-member}
+use Rattle.crgc_ids.proofs.MembersLaws.{all-member, all-from_members}
 use Rattle.history_model.specs.declared.records.Bulletin.{Bulletin}
 use Rattle.history_model.specs.declared.records.Bulletin.TheVariants as bulletins
 use Rattle.history_model.specs.declared.records.Delta.{Delta}
 use Rattle.history_model.specs.declared.records.StateRow.{StateRow}
 use Rattle.history_model.specs.declared.records.Window.{Window}
 use Rattle.wire_grammar.specs.Named.{count_names, delta_names, is_wide, names_of, pair_names, state_names, table_of, window_names}
-use Rattle.wire_grammar.specs.Spellable.{IsActor, IsSpellable}
-use Rattle.wire_grammar.proofs.Names.{all-from_each, each-left, each-right, rows_length, table_short}
+use Rattle.wire_grammar.specs.Spellable.{IsSpellable}
+use Rattle.wire_grammar.proofs.Names.{each-left, each-right, rows_length, table_short}
 use Rattle.wire_grammar.proofs.Tables.{table_of-has, table_of-only, table_of-rises}
 use Rattle.graph_wire.specs.Rises.{DeltaRises, KeysRise, WindowRises}
 use Rattle.graph_wire.specs.Writable.{DeltaHasRoom, IsWritable, IsWritableDelta, IsWritableWindow, WindowHasRoom}
 
 table-actors : (names : List Actor) → AllByRecursion IsActor names → AllByRecursion IsActor (table_of names)
-table-actors names all = all-from_each IsActor (table_of names) (λ x m. all-member IsActor x names all (table_of-only x names m))
+table-actors names all = all-from_members IsActor (table_of names) (λ x m. all-member IsActor x names all (table_of-only x names m))
 
 pub delta-room : (wide : Bool) (d : Delta) → IsWritableDelta d → AllByRecursion IsActor (delta_names d) → DeltaRises d → is_wide (table_of (delta_names d)) ≡ wide → DeltaHasRoom wide (table_of (delta_names d)) d
 delta-room wide d h all up form =

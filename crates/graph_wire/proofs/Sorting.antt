@@ -1,74 +1,30 @@
 -- Names that are sorted, each kept once, are their table.
-use Rattle.std.proofs.Common.{◌≡◌, ◌<◌, ◌≤◌, ◌+◌, ℕ, zero, suc, Bool, true, false, cond, eqb, ltb, List, [], ◌∷◌, length, get_or, Some, refl, sym, ap, subst, ◌∙◌, inl, inr, arith}
+use Rattle.std.proofs.Common.{◌≡◌, ◌<◌, ◌≤◌, ◌+◌, ℕ, zero, suc, Bool, true, false, cond, List, [], ◌∷◌, length, get_or, Some, refl, sym, ap, subst, ◌∙◌, inl, inr, arith}
 use Rattle.std.specs.List.{AllByRecursion, Contains, HoldsAt, dedup, dedup_from, slice_get}
 use Rattle.std.specs.List.Sorted.{IsNonDecreasingBy, IsPartitionPoint, IsPermutation, IsSorted, IsStrictlySortedBy}
-use Rattle.std.specs.Cmp.{IsTotalOrder}
-use Rattle.std.specs.Ordering.{eq_by_cmp, is_eq, is_lt, nat_cmp, ordering_index, ordering_then}
-use Rattle.std.specs.declared.cmp.Ordering.{Ordering}
+use Rattle.std.specs.Ordering.{eq_by_cmp, is_eq, is_lt, ordering_index, MatchOrdering}
 use Rattle.std.specs.declared.cmp.Ordering.TheVariants.{Less, Equal, Greater}
-use Rattle.std.proofs.lemmas.Bool.{le-ltb, lt-ltb, ne_eqb}
-use Rattle.std.proofs.lemmas.Bool.Decides.{Decides-eqb}
-use Rattle.std.proofs.lemmas.Cmp.{nat_cmp_total, on_total, then_total}
 use Rattle.std.proofs.lemmas.List.Kept.{IsStrictlySortedBy-dedup}
 use Rattle.std.proofs.lemmas.List.Sorted.{Contains-permutation, IsPermutation-sym, searchable_from_sorted}
 use Rattle.std.proofs.lemmas.Option.{slice_get-get_or}
 use Rattle.crgc_ids.specs.Actor.{Actor, IsActorBelow, is_actor_below, same_actor}
 use Rattle.crgc_ids.specs.Members.{IsAmong}
-use Rattle.crgc_ids.proofs.ActorLaws.{IsActorBelow-apart, actor_cases, is_actor_below-decides, same_actor-decides}
+use Rattle.crgc_ids.proofs.ActorLaws.{IsActorBelow-apart, actor_cases, is_actor_below-decides, same_actor-decides, same_actor-apart}
 use Rattle.wire_grammar.specs.Named.{index_of, table_of}
 use Rattle.wire_grammar.proofs.Tables.{IsTable, index_of-slice_get, table-same, table_of-has, table_of-only, table_of-rises}
+use Rattle.crgc_ids.proofs.ActorOrder.{actor_cmp, actor_cmp-above, actor_cmp-below, actor_cmp-same, actor_cmp-tells, actor_cmp-total}
 
--- the order of actors, as a comparison
-abbrev pub actor_cmp : Actor → Actor → Ordering
-actor_cmp a b = ordering_then (nat_cmp a.node b.node) (nat_cmp a.serial b.serial)
-
-pub actor_total : IsTotalOrder actor_cmp
-actor_total = then_total (on_total (λ (a : Actor). a.node) nat_cmp_total) (on_total (λ (a : Actor). a.serial) nat_cmp_total)
-
-less : (x y : ℕ) → x < y → nat_cmp x y ≡ Less
-less x y h = rw (lt-ltb x y h) refl
-
-same : (x y : ℕ) → x ≡ y → nat_cmp x y ≡ Equal
-same x y e = let one : ltb x y ≡ false = le-ltb x y (omega arith) in let two : eqb x y ≡ true = (Decides-eqb x y).1 e in rw (one, two) refl
-
-greater : (x y : ℕ) → y < x → nat_cmp x y ≡ Greater
-greater x y h = let one : ltb x y ≡ false = le-ltb x y (omega arith) in let two = ne_eqb x y (λ e. omega arith) in rw (one, two) refl
-
-pub cmp_below : (a b : Actor) → IsActorBelow a b → actor_cmp a b ≡ Less
-cmp_below a b (inl h) = rw (less a.node b.node h) refl
-cmp_below a b (inr h) = rw (same a.node b.node h.0, less a.serial b.serial h.1) refl
-
-pub cmp_same : (a b : Actor) → a ≡ b → actor_cmp a b ≡ Equal
-cmp_same a b e = rw (same a.node b.node (ap (λ c. c.node) e), same a.serial b.serial (ap (λ c. c.serial) e)) refl
-
-pub cmp_above : (a b : Actor) → IsActorBelow b a → actor_cmp a b ≡ Greater
-cmp_above a b (inl h) = rw (greater a.node b.node h) refl
-cmp_above a b (inr h) = rw (same a.node b.node (sym h.0), greater a.serial b.serial h.1) refl
-
+-- what the answer says of the order
 below_from_cmp : (a b : Actor) → actor_cmp a b ≡ Less → IsActorBelow a b
-below_from_cmp a b e =
-    elim (actor_cases a b) [
-      | inl h ↦ h
-      | inr other ↦ elim other [
-        | inl h ↦ (let bad = sym e ∙ cmp_same a b h in absurd cc)
-        | inr h ↦ (let bad = sym e ∙ cmp_above a b h in absurd cc)
-      ]
-    ]
-
--- two actors that differ
-pub not_same : (a b : Actor) → (a ≡ b → ⊥) → same_actor a b ≡ false
-not_same a b h =
-    let P : Bool → Type 0 = λ v. same_actor a b ≡ v → same_actor a b ≡ false in
-    let cases : P (same_actor a b) = elim (same_actor a b) as P [ true ↦ (λ e. absurd (h ((same_actor-decides a b).0 e))) | false ↦ (λ e. e) ] in
-    cases refl
+below_from_cmp a b e = subst (λ o. MatchOrdering o (IsActorBelow a b) (a ≡ b) (IsActorBelow b a)) e (actor_cmp-tells a b)
 
 ties : (a b : Actor) → same_actor a b ≡ eq_by_cmp actor_cmp a b
 ties a b =
     elim (actor_cases a b) [
-      | inl h ↦ not_same a b (λ e. IsActorBelow-apart a (subst (IsActorBelow a) (sym e) h)) ∙ sym (ap is_eq (cmp_below a b h))
+      | inl h ↦ same_actor-apart a b (λ e. IsActorBelow-apart a (subst (IsActorBelow a) (sym e) h)) ∙ sym (ap is_eq (actor_cmp-below a b h))
       | inr other ↦ elim other [
-        | inl h ↦ (same_actor-decides a b).1 h ∙ sym (ap is_eq (cmp_same a b h))
-        | inr h ↦ not_same a b (λ e. IsActorBelow-apart a (subst (λ c. IsActorBelow c a) (sym e) h)) ∙ sym (ap is_eq (cmp_above a b h))
+        | inl h ↦ (same_actor-decides a b).1 h ∙ sym (ap is_eq (actor_cmp-same a b h))
+        | inr h ↦ same_actor-apart a b (λ e. IsActorBelow-apart a (subst (λ c. IsActorBelow c a) (sym e) h)) ∙ sym (ap is_eq (actor_cmp-above a b h))
       ]
     ]
 
@@ -131,7 +87,7 @@ dedup-only z (x ∷ xs) h = was_there z x xs h
 pub table-sorted : (names sorted : List Actor) → IsPermutation names sorted → IsSorted actor_cmp sorted → dedup same_actor sorted ≡ table_of names
 table-sorted names sorted moved up =
     table-same (dedup same_actor sorted) (table_of names)
-    (table-from_sorted (dedup same_actor sorted) (IsStrictlySortedBy-dedup actor_total ties sorted up))
+    (table-from_sorted (dedup same_actor sorted) (IsStrictlySortedBy-dedup actor_cmp-total ties sorted up))
     (table_of-rises names)
     (λ x h. table_of-has x names (among-permutation sorted names x (IsPermutation-sym names sorted moved) (dedup-only x sorted h)))
     (λ x h. dedup-has x sorted (among-permutation names sorted x moved (table_of-only x names h)))
@@ -142,10 +98,10 @@ slice_get-from_equal : (table : List Actor) (a : Actor) (i : ℕ) → i < length
 slice_get-from_equal table a i lt e =
     slice_get-get_or table i a lt
     ∙ ap Some (elim (actor_cases (get_or table i a) a) [
-      | inl h ↦ (let bad = sym e ∙ cmp_below (get_or table i a) a h in absurd cc)
+      | inl h ↦ (let bad = sym e ∙ actor_cmp-below (get_or table i a) a h in absurd cc)
       | inr other ↦ elim other [
         | inl h ↦ h
-        | inr h ↦ (let bad = sym e ∙ cmp_above (get_or table i a) a h in absurd cc)
+        | inr h ↦ (let bad = sym e ∙ actor_cmp-above (get_or table i a) a h in absurd cc)
       ]
     ])
 
@@ -153,7 +109,7 @@ above_from_cmp : (a b : Actor) → actor_cmp a b ≡ Greater → is_actor_below 
 above_from_cmp a b e =
     let P : Bool → Type 0 = λ v. is_actor_below a b ≡ v → is_actor_below a b ≡ false in
     let cases : P (is_actor_below a b) = elim (is_actor_below a b) as P [
-      | true ↦ (λ t. let bad = sym e ∙ cmp_below a b ((is_actor_below-decides a b).0 t) in absurd cc)
+      | true ↦ (λ t. let bad = sym e ∙ actor_cmp-below a b ((is_actor_below-decides a b).0 t) in absurd cc)
       | false ↦ (λ f. f)
     ] in
     cases refl
@@ -176,7 +132,7 @@ sorted-at : (xs : List Actor) (k j : ℕ) (d : Actor) → IsTable xs → j ≡ s
 sorted-at [] k j d t e lt = absurd (omega arith)
 sorted-at (x ∷ xs) k zero d t e lt = absurd (omega arith)
 sorted-at (x ∷ []) k (suc j) d t e lt = absurd (omega arith)
-sorted-at (x ∷ y ∷ ys) zero (suc zero) d t e lt = ap is_lt (cmp_above y x t.0.0)
+sorted-at (x ∷ y ∷ ys) zero (suc zero) d t e lt = ap is_lt (actor_cmp-above y x t.0.0)
 sorted-at (x ∷ y ∷ ys) zero (suc (suc j)) d t e lt = absurd (omega arith)
 sorted-at (x ∷ y ∷ ys) (suc k) (suc j) d t e lt = sorted-at (y ∷ ys) k j d t.1 (omega arith) (omega arith)
 
@@ -184,6 +140,6 @@ pub index-missed : (table : List Actor) (a : Actor) (i : ℕ) → IsTable table 
     → (IsNonDecreasingBy (λ y. ordering_index (actor_cmp y a)) table → IsPartitionPoint (λ y. actor_cmp y a ≡ Less) (λ y. actor_cmp y a ≡ Greater) table i)
     → i ≡ index_of table a
 index-missed table a i t le h =
-    let up = searchable_from_sorted actor_total (λ (x : Actor). x) table a (λ k d low high. sorted-at table k (k + 1) d t (omega arith) high) in
+    let up = searchable_from_sorted actor_cmp-total (λ (x : Actor). x) table a (λ k d low high. sorted-at table k (k + 1) d t (omega arith) high) in
     let parts = h up in
     sym (index-between table a i le (λ k lt. parts.0 k a (omega arith) lt) (λ k low high. parts.1 k a low high))

@@ -2,7 +2,7 @@
 ghost use Rattle.std.specs.Prelude.{◌≡◌, [], ◌∷◌, ◌++◌, OnOk, IfOk};
 ghost use Rattle.std.specs.List.{AllByRecursion};
 ghost use Rattle.wire_grammar.specs.Named.{state_names, count_names, delta_names, window_names, names_of, table_of};
-ghost use Rattle.wire_grammar.specs.Spellable.{IsActor};
+ghost use Rattle.crgc_ids.specs.Actor.{IsActor};
 ghost use Rattle.graph_wire.specs.Pushed.{owner_names, target_names, pushed_pairs, pushed_delta, pushed_window};
 ghost use Rattle.graph_wire.specs.Rises.{KeysRise, DeltaRises, WindowRises};
 

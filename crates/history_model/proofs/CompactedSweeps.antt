@@ -41,7 +41,8 @@ module _ (cl : Cluster) (lost : ℕ → Bool) (gone : Actor → Bool) (f : Fold)
   is_left a = not (gone a)
 
   -- the dead of the sweep are the actors that it does not leave out or mark
-  pub compacted-unmarked : (a : Actor) → IsAmong a (compacted_dead cl lost gone f) ↔ (IsAmong a (known_actors cl f) × (is_left_out lost gone a ≡ false) × ¬ IsMarked cl lost gone f a)
+  pub compacted-unmarked : (a : Actor) → IsAmong a (compacted_dead cl lost gone f)
+      ↔ (IsAmong a (known_actors cl f) × (is_left_out lost gone a ≡ false) × ¬ IsMarked cl lost gone f a)
   unfolding compacted_dead
   compacted-unmarked a =
       let unreached = dead_without-unreached cl lost left_out f a in (
@@ -49,7 +50,8 @@ module _ (cl : Cluster) (lost : ℕ → Bool) (gone : Actor → Bool) (f : Fold)
         λ all. unreached.1 (all.0, all.1, λ reached. all.2 (all.0, all.1, reached)),
       )
 
-  pub dead-or_marked : (a : Actor) → IsAmong a (known_actors cl f) → is_left_out lost gone a ≡ false → IsAmong a (compacted_dead cl lost gone f) ⊎ IsMarked cl lost gone f a
+  pub dead-or_marked : (a : Actor) → IsAmong a (known_actors cl f) → is_left_out lost gone a ≡ false
+      → IsAmong a (compacted_dead cl lost gone f) ⊎ IsMarked cl lost gone f a
   unfolding compacted_dead
   dead-or_marked a known left =
       elim (dead-or_reached cl lost left_out f a known left) [ inl member ↦ inl member | inr reached ↦ inr (known, left, reached) ]
@@ -149,41 +151,66 @@ module _ (cl : Cluster) (m : ℕ) (gone stopped : Actor → Bool) (f : Fold) (ri
       stopped-too false false were = refl
 
 -- where nobody is gone, the verdict at what is folded at m is that of the history
-nobody-verdict : (cl : Cluster) (m : ℕ) (h : List Event) (stopped : Actor → Bool) → ((a : Actor) → a.node ≡ m → stopped a ≡ is_stopped cl a h) → (v : Verdict)
+nobody-verdict : (cl : Cluster) (m : ℕ) (h : List Event) (stopped : Actor → Bool)
+    → ((a : Actor) → a.node ≡ m → stopped a ≡ is_stopped cl a h) → (v : Verdict)
     → IsCompactedVerdict cl m nobody stopped (folded cl m h) v ↔ IsVerdict cl m h v
 nobody-verdict cl m h stopped agree v =
     let f = folded cl m h in
-    let tests : (a : Actor) → ((a.node == m) && not (stopped a)) ≡ ((a.node == m) && not (is_stopped cl a h)) = λ a. here-tests m a (stopped a) (is_stopped cl a h) (agree a) in
+    let tests : (a : Actor) → ((a.node == m) && not (stopped a)) ≡ ((a.node == m) && not (is_stopped cl a h)) =
+    λ a. here-tests m a (stopped a) (is_stopped cl a h) (agree a) in
     let stops : compacted_stops cl m nobody stopped f ≡ stops_of cl m h =
     ap (λ xs. map (stop_of cl (is_lost cl f) f) (filter (λ a. (a.node == m) && not (stopped a)) xs)) (compacted-nobody cl (is_lost cl f) f)
     ∙ (λ i. map (stop_of cl (is_lost cl f) f) (filter (λ a. tests a i) (dead_of cl f))) in
     let cut : (o : ℕ) → length (f o) ≡ cut_at cl m h o = λ o. length-take-le (cut_at cl m h o) (stream cl o h) (cut-bounded cl m h o) in (
-      λ it. record { node = it.node; cut = λ o below. it.cut o below ∙ cut o; beyond = it.beyond; lost = it.lost; stops = it.stops ∙ stops },
-      λ it. record { node = it.node; cut = λ o below. it.cut o below ∙ sym (cut o); beyond = it.beyond; lost = it.lost; stops = it.stops ∙ sym stops },
+      λ it. record {
+        node = it.node;
+        cut = λ o below. it.cut o below ∙ cut o;
+        beyond = it.beyond;
+        lost = it.lost;
+        stops = it.stops ∙ stops;
+      },
+      λ it. record {
+        node = it.node;
+        cut = λ o below. it.cut o below ∙ sym (cut o);
+        beyond = it.beyond;
+        lost = it.lost;
+        stops = it.stops ∙ sym stops;
+      },
     )
 
 -- ---- who may be gone
 
 -- in a legal history, whoever is rightly gone is dead
-pub gone-dead : (cl : Cluster) (gone : Actor → Bool) (f : Fold) (h : List Event) → IsLegal cl h → IsFoldOf cl h f → AreRightlyGone cl gone f → GoneAreDead cl (is_lost cl f) gone f
+pub gone-dead : (cl : Cluster) (gone : Actor → Bool) (f : Fold) (h : List Event) → IsLegal cl h → IsFoldOf cl h f
+    → AreRightlyGone cl gone f → GoneAreDead cl (is_lost cl f) gone f
 gone-dead cl gone f h legal fold right a went kept = (holds-among (dead_of cl f) a).0 (right h legal fold a went kept)
 
 pub nobody-gone : (cl : Cluster) (f : Fold) → AreRightlyGone cl nobody f
 nobody-gone cl f h legal fold a went kept = absurd (false≢true went)
 
+-- whoever was dead in some fold within this one may be gone
+pub once_dead-gone : (cl : Cluster) (gone : Actor → Bool) (f : Fold)
+    → ((a : Actor) → gone a ≡ true → (g : Fold) × IsWithin g f × IsAmong a (dead_of cl g)) → AreRightlyGone cl gone f
+once_dead-gone cl gone f were h legal fold a went kept =
+    let before = were a went in
+    (holds-among (dead_of cl f) a).1 (dead-stays cl h before.0 f legal fold before.1 a before.2 kept)
+
 -- whoever is gone stays so as more is folded
 pub gone-stays : (cl : Cluster) (gone : Actor → Bool) (g f : Fold) → IsWithin g f → AreRightlyGone cl gone g → AreRightlyGone cl gone f
 gone-stays cl gone g f within right h legal fold a went kept =
-    let before = gone-dead cl gone g h legal (within-trans g f (λ o. stream cl o h) within fold) right a went (kept-before cl h g f fold within a.node kept) in
+    let fold_before = within-trans g f (λ o. stream cl o h) within fold in
+    let before = gone-dead cl gone g h legal fold_before right a went (kept-before cl h g f fold within a.node kept) in
     (holds-among (dead_of cl f) a).1 (dead-stays cl h g f legal fold within a before kept)
 
 -- and so may fewer be
-pub fewer-gone : (cl : Cluster) (gone stopped : Actor → Bool) (f : Fold) → AreStopped gone stopped → AreRightlyGone cl stopped f → AreRightlyGone cl gone f
+pub fewer-gone : (cl : Cluster) (gone stopped : Actor → Bool) (f : Fold) → AreStopped gone stopped
+    → AreRightlyGone cl stopped f → AreRightlyGone cl gone f
 fewer-gone cl gone stopped f were right h legal fold a went = right h legal fold a (were a went)
 
 -- whom a sweep of what is left finds dead may go too
 pub more-gone : (cl : Cluster) (gone stopped more : Actor → Bool) (f : Fold) → AreStopped gone stopped → AreRightlyGone cl stopped f
-    → ((a : Actor) → more a ≡ true → (stopped a ≡ true) ⊎ IsAmong a (compacted_dead cl (is_lost cl f) gone f)) → AreRightlyGone cl more f
+    → ((a : Actor) → more a ≡ true → (stopped a ≡ true) ⊎ IsAmong a (compacted_dead cl (is_lost cl f) gone f))
+    → AreRightlyGone cl more f
 more-gone cl gone stopped more f were right joined h legal fold a went kept =
     let gone_right = gone-dead cl gone f h legal fold (fewer-gone cl gone stopped f were right) in
     elim (joined a went) [
@@ -194,14 +221,16 @@ more-gone cl gone stopped more f were right joined h legal fold a went kept =
 -- ---- in a history
 
 -- m's own actors that were stopped are dead at m
-stopped-gone : (cl : Cluster) (m : ℕ) (h : List Event) (gone stopped : Actor → Bool) → IsLegal cl h → AreOwnStops cl m h gone stopped → GoneAreDead cl (is_lost cl (folded cl m h)) gone (folded cl m h)
+stopped-gone : (cl : Cluster) (m : ℕ) (h : List Event) (gone stopped : Actor → Bool)
+    → IsLegal cl h → AreOwnStops cl m h gone stopped → GoneAreDead cl (is_lost cl (folded cl m h)) gone (folded cl m h)
 stopped-gone cl m h gone stopped legal stops a went kept =
     let here = stops.own a went in
     subst (λ n. is_lost cl (folded cl n h) a.node ≡ false → IsAmong a (dead_at cl n h)) here
     (stopped-dead cl h a legal (sym (stops.exact a here) ∙ stops.were a went)) kept
 
 -- so the verdict of a collector that forgot some of them is that of the history
-pub own-verdict : (cl : Cluster) (m : ℕ) (h : List Event) (gone stopped : Actor → Bool) → IsLegal cl h → AreOwnStops cl m h gone stopped → (v : Verdict)
+pub own-verdict : (cl : Cluster) (m : ℕ) (h : List Event) (gone stopped : Actor → Bool)
+    → IsLegal cl h → AreOwnStops cl m h gone stopped → (v : Verdict)
     → IsCompactedVerdict cl m gone stopped (folded cl m h) v ↔ IsVerdict cl m h v
 own-verdict cl m h gone stopped legal stops v =
     let rest = compacted-verdict cl m gone stopped (folded cl m h) (stopped-gone cl m h gone stopped legal stops) stops.were v in

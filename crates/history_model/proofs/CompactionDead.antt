@@ -2,7 +2,7 @@
 -- lost: no member of the dead acts past its horizon, and nobody outside comes to hold one, so all that is told later of
 -- them is what the earlier fold told already. `CompactedSweeps` draws from it who may be gone.
 use Rattle.std.proofs.Common.{◌≡◌, ◌<◌, ◌≤◌, ◌+◌, ◌&&◌, ◌||◌, ℕ, Bool, true, false, not, cond, List, [], ◌∷◌, ◌++◌, length, filter, sum_by, refl, sym, ◌∙◌, ap, ap₂, subst, inl, inr, arith, append_assoc}
-use Rattle.std.proofs.lemmas.Bool.{and_parts, cases_Bool, cases_lt, eq-eqb, eqb-true, false_from_ne_true, false≢true, ltb-true, not-true, or_cases}
+use Rattle.std.proofs.lemmas.Bool.{and_parts, cases_lt, eq-eqb, eqb-true, false_from_ne_true, false≢true, ltb-true, not-true, or_cases}
 use Rattle.std.proofs.lemmas.List.Sums.{sum_by-le-sum_by}
 use Rattle.std.specs.Prelude.{◌==◌, Some}
 use Rattle.crgc_ids.specs.Actor.{Actor}
@@ -20,7 +20,7 @@ use Rattle.history_model.specs.Legal.{IsLegal}
 use Rattle.history_model.specs.Messages.{Message, is_to, mail, sent}
 use Rattle.history_model.specs.Settled.{AreSettled}
 use Rattle.history_model.specs.Streams.{stream}
-use Rattle.history_model.specs.Sweeps.{dead_at, is_stopped, is_swept}
+use Rattle.history_model.specs.Sweeps.{dead_at, dead_of, is_stopped, is_swept}
 use Rattle.history_model.proofs.AccountsBirths.{born-on_node, noted-born}
 use Rattle.history_model.proofs.AccountsMail.{admitted_in, mail-and_open, mail-sent}
 use Rattle.history_model.proofs.AccountsNotes.{received-noted}
@@ -51,12 +51,14 @@ open-part_less false true m n less = omega arith
 open-part_less false false m n less = less
 
 -- what weighs less is open with less
-open-less : (adm : Admitted) (b : Actor) (v w : Message → ℕ) → ((m : Message) → v m ≤ w m) → (h : List Event) → open_sum adm b v h ≤ open_sum adm b w h
+open-less : (adm : Admitted) (b : Actor) (v w : Message → ℕ) → ((m : Message) → v m ≤ w m) → (h : List Event)
+    → open_sum adm b v h ≤ open_sum adm b w h
 open-less adm b v w less [] = omega arith
 open-less adm b v w less (Send f t refs ∷ p) =
     let one : Message = record { from = f; to = t; refs = refs } in
     let lighter = sum_by-le-sum_by v w (filter (is_to b) (one ∷ [])) less in
-    let here = open-part_less (f.node == t.node) (adm f.node t.node (length (sent f.node t.node p))) (weigh b v (one ∷ [])) (weigh b w (one ∷ [])) lighter in
+    let admitted = adm f.node t.node (length (sent f.node t.node p)) in
+    let here = open-part_less (f.node == t.node) admitted (weigh b v (one ∷ [])) (weigh b w (one ∷ [])) lighter in
     omega (arith, open-less adm b v w less p, here)
 open-less adm b v w less (_ ∷ p) = open-less adm b v w less p
 
@@ -69,13 +71,13 @@ sent-gap cl h legal b v w less =
 -- ---- more is folded, and more nodes are lost
 
 -- what counts from nodes outside counts no more where more nodes are lost
-fewer-outside : (gone more : Bool) (n : ℕ) → (gone ≡ true → more ≡ true) → cond (not more) n 0 ≤ cond (not gone) n 0
+fewer-outside : (lost more : Bool) (n : ℕ) → (lost ≡ true → more ≡ true) → cond (not more) n 0 ≤ cond (not lost) n 0
 fewer-outside true true n grows = omega arith
 fewer-outside true false n grows = absurd (false≢true (grows refl))
 fewer-outside false true n grows = omega arith
 fewer-outside false false n grows = omega arith
 
-outside-before : (gone more test : Bool) → (gone ≡ true → more ≡ true) → (not more && test) ≡ true → (not gone && test) ≡ true
+outside-before : (lost more test : Bool) → (lost ≡ true → more ≡ true) → (not more && test) ≡ true → (not lost && test) ≡ true
 outside-before true true test grows passed = passed
 outside-before true false test grows passed = absurd (false≢true (grows refl))
 outside-before false true test grows passed = absurd (false≢true passed)
@@ -103,7 +105,8 @@ module _ (cl : Cluster) (h : List Event) (c d : ℕ → ℕ) (lost more : ℕ �
   set = dead-told_set cl h c lost legal first
 
   told : (q p : List Event) → h ≡ q ++ p → AreTold cl lost was_told members p
-  told q p same = told-always cl lost was_told members p q (subst (IsLegal cl) same legal) (subst (λ k. IsToldSet cl k lost was_told members) same set)
+  told q p same =
+      told-always cl lost was_told members p q (subst (IsLegal cl) same legal) (subst (λ k. IsToldSet cl k lost was_told members) same set)
 
   -- its own entry says neither busy nor root: at the later flush the member was at rest
   later-flags : (a : Actor) → IsAmong a members → may_act (own_flags after a) ≡ false
@@ -122,7 +125,8 @@ module _ (cl : Cluster) (h : List Event) (c d : ℕ → ℕ) (lost more : ℕ �
 
   -- a member took all its mail, and that is told; and all that was sent to it from outside came
   later-mail : (a : Actor) → IsAmong a members
-      → (told_sum cl is_told (is_receipt a) h ≡ length (mail a h)) × (sum_by (counts_other lost) (filter (is_to a) (all_sent h)) ≤ sum_by (counts_other lost) (mail a h))
+      → (told_sum cl is_told (is_receipt a) h ≡ length (mail a h))
+      × (sum_by (counts_other lost) (filter (is_to a) (all_sent h)) ≤ sum_by (counts_other lost) (mail a h))
   later-mail a member =
       let balance = set.balanced a member in
       let sendings = (told [] h refl).sendings a member in
@@ -146,7 +150,8 @@ module _ (cl : Cluster) (h : List Event) (c d : ℕ → ℕ) (lost more : ℕ �
       let most = told-noted cl is_told (is_sending more a) h in
       let sent_all = sendings-sent cl h more a in
       let came = mail-sent cl h legal a (counts_other more) in
-      let gap = sent-gap cl h legal a (counts_other more) (counts_other lost) (λ m. fewer-outside (lost m.from.node) (more m.from.node) 1 (grows m.from.node)) in
+      let gap = sent-gap cl h legal a (counts_other more) (counts_other lost)
+      (λ m. fewer-outside (lost m.from.node) (more m.from.node) 1 (grows m.from.node)) in
       omega (arith, (later-mail a member).1, sendings, shrinks, most, sent_all, came, gap)
 
   later-balanced : (a : Actor) → IsAmong a members → more a.node ≡ false → is_balanced cl more after a ≡ true
@@ -154,7 +159,16 @@ module _ (cl : Cluster) (h : List Event) (c d : ℕ → ℕ) (lost more : ℕ �
       let admitted = admitted-mail cl h d more legal second a (dead-on_node cl h c lost legal a member) kept in
       let lost_mail = tally-sum_by (λ (m : Message). more m.from.node) (mail a h) in
       eq-eqb (received_count cl after a) (told_count cl more after a + admitted_count cl more after a)
-      (omega (arith, (later-mail a member).0, later-sent a member, mail-split more (mail a h), admitted, lost_mail, received-told cl h d a legal, sent-told cl h d more a legal))
+      (omega (
+        arith,
+        (later-mail a member).0,
+        later-sent a member,
+        mail-split more (mail a h),
+        admitted,
+        lost_mail,
+        received-told cl h d a legal,
+        sent-told cl h d more a legal,
+      ))
 
   -- who has a positive edge is on a node of the cluster
   owner-node : (b a : Actor) → has_edge cl more after b a ≡ true → b.node < cl.nodes
@@ -171,10 +185,11 @@ module _ (cl : Cluster) (h : List Event) (c d : ℕ → ℕ) (lost more : ℕ �
       ]
 
   -- and is a member: no further reference to a member is told
-  later-owners : (b a : Actor) → IsAmong a members → more a.node ≡ false → has_edge cl more after b a ≡ true → more b.node ≡ false → IsAmong b members
+  later-owners : (b a : Actor) → IsAmong a members → more a.node ≡ false → has_edge cl more after b a ≡ true
+      → more b.node ≡ false → IsAmong b members
   later-owners b a member kept edge out =
       let node = owner-node b a edge in
-      let was_out : lost b.node ≡ false = elim (cases_Bool (lost b.node)) [ inl gone ↦ absurd (false≢true (sym out ∙ grows b.node gone)) | inr stays ↦ stays ] in
+      let was_out = false_from_ne_true (lost b.node) (λ before. false≢true (sym out ∙ grows b.node before)) in
       let positive = ltb-true (released_count cl after b a) (created_count cl more after b a + carried_count cl more after b a) edge in
       let creations = (told [] h refl).creations b a member in
       let given_before = creations-given cl h lost b a (set.placed a member) in
@@ -222,46 +237,55 @@ module _ (cl : Cluster) (h : List Event) (c d : ℕ → ℕ) (lost more : ℕ �
 -- ---- folds
 
 -- a node that is lost in a fold is lost in a fold around
-lost-stays : (cl : Cluster) (h : List Event) (g f : Fold) → IsFoldOf cl h f → IsWithin g f → (n : ℕ) → is_lost cl g n ≡ true → is_lost cl f n ≡ true
+lost-stays : (cl : Cluster) (h : List Event) (g f : Fold) → IsFoldOf cl h f → IsWithin g f
+    → (n : ℕ) → is_lost cl g n ≡ true → is_lost cl f n ≡ true
 lost-stays cl h g f fold within n =
     subst (λ k. is_lost cl k n ≡ true → is_lost cl f n ≡ true) (fold-cuts cl h g (within-trans g f (λ o. stream cl o h) within fold))
     (subst (λ k. is_lost cl (fold_to cl (λ o. length (g o)) h) n ≡ true → is_lost cl k n ≡ true) (fold-cuts cl h f fold)
     (lost-grows cl [] h (λ o. length (g o)) (λ o. length (f o)) (within-cuts g f within) n))
 
 -- so one that is not lost there was not lost before
-pub kept-before : (cl : Cluster) (h : List Event) (g f : Fold) → IsFoldOf cl h f → IsWithin g f → (n : ℕ) → is_lost cl f n ≡ false → is_lost cl g n ≡ false
+pub kept-before : (cl : Cluster) (h : List Event) (g f : Fold) → IsFoldOf cl h f → IsWithin g f
+    → (n : ℕ) → is_lost cl f n ≡ false → is_lost cl g n ≡ false
 kept-before cl h g f fold within n kept =
     false_from_ne_true (is_lost cl g n) (λ lost. false≢true (sym kept ∙ lost-stays cl h g f fold within n lost))
 
 -- the dead of a fold are dead in each fold around it, unless their nodes are lost there
-pub dead-stays : (cl : Cluster) (h : List Event) (g f : Fold) → IsLegal cl h → IsFoldOf cl h f → IsWithin g f → (a : Actor) → IsAmong a (dead cl (is_lost cl g) g) → is_lost cl f a.node ≡ false → IsAmong a (dead cl (is_lost cl f) f)
+pub dead-stays : (cl : Cluster) (h : List Event) (g f : Fold) → IsLegal cl h → IsFoldOf cl h f → IsWithin g f
+    → (a : Actor) → IsAmong a (dead_of cl g) → is_lost cl f a.node ≡ false → IsAmong a (dead_of cl f)
 dead-stays cl h g f legal fold within a member kept =
     let c : ℕ → ℕ = λ o. length (g o) in
     let d : ℕ → ℕ = λ o. length (f o) in
     let longer = within-cuts g f within in
     let before = fold-cuts cl h g (within-trans g f (λ o. stream cl o h) within fold) in
     let after = fold-cuts cl h f fold in
-    let Dead : Fold → Type 0 = λ k. IsAmong a (dead cl (is_lost cl k) k) in
+    let Dead : Fold → Type 0 = λ k. IsAmong a (dead_of cl k) in
     subst Dead after
     (dead-stays_settled cl h c d (is_lost cl (fold_to cl c h)) (is_lost cl (fold_to cl d h)) legal longer (lost-grows cl [] h c d longer)
-    (settled cl h legal c) (settled cl h legal d) a (subst Dead (sym before) member) (subst (λ k. is_lost cl k a.node ≡ false) (sym after) kept))
+    (settled cl h legal c) (settled cl h legal d) a
+    (subst Dead (sym before) member) (subst (λ k. is_lost cl k a.node ≡ false) (sym after) kept))
 
 -- ---- moments
 
 -- what is dead at a node is dead there ever after
-pub dead_at-stays : (cl : Cluster) (m : ℕ) (q h : List Event) (a : Actor) → IsLegal cl (q ++ h) → IsAmong a (dead_at cl m h) → is_lost cl (folded cl m (q ++ h)) a.node ≡ false → IsAmong a (dead_at cl m (q ++ h))
+pub dead_at-stays : (cl : Cluster) (m : ℕ) (q h : List Event) (a : Actor) → IsLegal cl (q ++ h)
+    → IsAmong a (dead_at cl m h) → is_lost cl (folded cl m (q ++ h)) a.node ≡ false → IsAmong a (dead_at cl m (q ++ h))
 dead_at-stays cl m q h a legal =
-    dead-stays cl (q ++ h) (folded cl m h) (folded cl m (q ++ h)) legal (fold_to-fold cl (cut_at cl m (q ++ h)) (q ++ h)) (folded-within cl m q h) a
+    dead-stays cl (q ++ h) (folded cl m h) (folded cl m (q ++ h)) legal
+    (fold_to-fold cl (cut_at cl m (q ++ h)) (q ++ h)) (folded-within cl m q h) a
 
 -- so after one more event, where it was dead before
-dead_at-next : (cl : Cluster) (m : ℕ) (e : Event) (p : List Event) (a : Actor) → IsLegal cl (e ∷ p) → is_lost cl (folded cl m (e ∷ p)) a.node ≡ false
+dead_at-next : (cl : Cluster) (m : ℕ) (e : Event) (p : List Event) (a : Actor)
+    → IsLegal cl (e ∷ p) → is_lost cl (folded cl m (e ∷ p)) a.node ≡ false
     → (is_lost cl (folded cl m p) a.node ≡ false → IsAmong a (dead_at cl m p)) → IsAmong a (dead_at cl m (e ∷ p))
 dead_at-next cl m e p a legal kept before =
-    let kept_before = false_from_ne_true (is_lost cl (folded cl m p) a.node) (λ lost. false≢true (sym kept ∙ lost_at-grows cl m (e ∷ []) p a.node lost)) in
+    let kept_before = false_from_ne_true (is_lost cl (folded cl m p) a.node)
+    (λ lost. false≢true (sym kept ∙ lost_at-grows cl m (e ∷ []) p a.node lost)) in
     dead_at-stays cl m (e ∷ []) p a legal (before kept_before) kept
 
 -- whoever was stopped is dead at its node
-pub stopped-dead : (cl : Cluster) (h : List Event) (a : Actor) → IsLegal cl h → is_stopped cl a h ≡ true → is_lost cl (folded cl a.node h) a.node ≡ false → IsAmong a (dead_at cl a.node h)
+pub stopped-dead : (cl : Cluster) (h : List Event) (a : Actor) → IsLegal cl h → is_stopped cl a h ≡ true
+    → is_lost cl (folded cl a.node h) a.node ≡ false → IsAmong a (dead_at cl a.node h)
 stopped-dead cl [] a legal stopped kept = absurd (false≢true stopped)
 stopped-dead cl (Sweep m ∷ p) a legal stopped kept =
     dead_at-next cl a.node (Sweep m) p a legal kept (λ kept_before. elim (or_cases (is_swept cl m p a) (is_stopped cl a p) stopped) [

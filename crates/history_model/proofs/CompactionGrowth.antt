@@ -15,10 +15,11 @@ use Rattle.history_model.specs.Compaction.{IsFoldOf, IsWithin}
 use Rattle.history_model.specs.Facts.{Flags, Note, notes}
 use Rattle.history_model.specs.Folds.{Fold, cut_at, fold_to, folded}
 use Rattle.history_model.specs.Graph.{known_actors, notice_facts}
-use Rattle.history_model.specs.Streams.{Notice, delta, window_of, final_of, flags_at, stream}
+use Rattle.history_model.specs.Streams.{Notice, flags_at, stream}
 use Rattle.history_model.proofs.AccountsGrowth.{length-begins}
 use Rattle.history_model.proofs.FoldSumsHorizons.{flush_horizon-within, publish_horizon-within}
 use Rattle.history_model.proofs.FoldSumsKnown.{known-named}
+use Rattle.history_model.proofs.JoinedBulletins.{notice_facts-append}
 use Rattle.history_model.proofs.LinksStreams.{cut-grows, stream-grows}
 use Rattle.history_model.proofs.Lists.{tally-append}
 use Rattle.history_model.proofs.Sums.{flush_horizon, horizon_flags, noted_sum, publish_horizon, told_horizon, told_sum}
@@ -51,7 +52,8 @@ take-within (suc c) zero (x ∷ xs) more less = absurd (omega arith)
 take-within (suc c) (suc d) (x ∷ xs) more less = (let later = take-within c d xs more (omega arith) in (later.0, ap (λ l. x ∷ l) later.1))
 
 -- more bulletins of a longer history are a fold around
-pub fold_to-within : (cl : Cluster) (c d : ℕ → ℕ) (q h : List Event) → ((o : ℕ) → c o ≤ d o) → IsWithin (fold_to cl c h) (fold_to cl d (q ++ h))
+pub fold_to-within : (cl : Cluster) (c d : ℕ → ℕ) (q h : List Event) → ((o : ℕ) → c o ≤ d o)
+    → IsWithin (fold_to cl c h) (fold_to cl d (q ++ h))
 fold_to-within cl c d q h more o =
     let grows = stream-grows cl o q h in
     let later = take-within (c o) (d o) (stream cl o h) grows.0 (more o) in
@@ -91,31 +93,38 @@ publish_horizon-rises cl o n k (Publish m ∷ p) more =
     (below-higher (m == o) j n k more) (publish_horizon-within cl o n p) (publish_horizon-rises cl o n k p more)
 publish_horizon-rises cl o n k (_ ∷ p) more = publish_horizon-rises cl o n k p more
 
+-- where a was flushed below a position, it was flushed below a higher one too
+flags-later : (a : Actor) (t u : ℕ) → t ≤ u → (g : Flags) (h : List Event) → horizon_flags a t h ≡ Some g
+    → (k : Flags) × (horizon_flags a u h ≡ Some k)
+flags-later a t u higher g [] e = absurd (cc)
+flags-later a t u higher g (Flush b ∷ p) e =
+    let below = same_actor b a && nat_lt (length p) t in
+    let later = same_actor b a && nat_lt (length p) u in
+    let Later : Bool → Type 0 = λ w. (k : Flags) × (cond w (Some (flags_at a p)) (horizon_flags a u p) ≡ Some k) in
+    let now : Later true = (flags_at a p, refl) in
+    let From : Bool → Type 0 = λ v. (v ≡ true → later ≡ true) → cond v (Some (flags_at a p)) (horizon_flags a t p) ≡ Some g → Later later in
+    let from : From below = elim below as From [
+      | true ↦ λ passes _. subst Later (sym (passes refl)) now
+      | false ↦ λ _ f. elim later as Later [ true ↦ now | false ↦ flags-later a t u higher g p f ]
+    ] in
+    from (below-higher (same_actor b a) (length p) t u higher) e
+flags-later a t u higher g (_ ∷ p) e = flags-later a t u higher g p e
+
 module _ (cl : Cluster) (h : List Event) (c d : ℕ → ℕ) (more : (o : ℕ) → c o ≤ d o) where
-  -- where more is folded, each actor is told no less far
+  -- where more is folded, the publishes that are folded of each node go no less far
+  published-rises : (o : ℕ) → publish_horizon cl o (c o) h ≤ publish_horizon cl o (d o) h
+  published-rises o = publish_horizon-rises cl o (c o) (d o) h (more o)
+
+  -- so each actor is told no less far
   pub told_horizon-rises : (a : Actor) → told_horizon cl c h a ≤ told_horizon cl d h a
   told_horizon-rises a =
-      flush_horizon-rises a (publish_horizon cl a.node (c a.node) h) (publish_horizon cl a.node (d a.node) h) h
-      (publish_horizon-rises cl a.node (c a.node) (d a.node) h (more a.node))
+      flush_horizon-rises a (publish_horizon cl a.node (c a.node) h) (publish_horizon cl a.node (d a.node) h) h (published-rises a.node)
 
   -- and an own entry stays, or a later one takes its place
   pub flags-stay : (a : Actor) (g : Flags) → horizon_flags a (publish_horizon cl a.node (c a.node) h) h ≡ Some g
       → (k : Flags) × (horizon_flags a (publish_horizon cl a.node (d a.node) h) h ≡ Some k)
-  flags-stay a g = later (publish_horizon cl a.node (c a.node) h) (publish_horizon cl a.node (d a.node) h) (publish_horizon-rises cl a.node (c a.node) (d a.node) h (more a.node)) h
-    where
-      later : (t u : ℕ) → t ≤ u → (p : List Event) → horizon_flags a t p ≡ Some g → (k : Flags) × (horizon_flags a u p ≡ Some k)
-      later t u higher [] e = absurd (cc)
-      later t u higher (Flush b ∷ p) e =
-          let before = later t u higher p in
-          let Later : Bool → Type 0 = λ w. (k : Flags) × (cond w (Some (flags_at a p)) (horizon_flags a u p) ≡ Some k) in
-          let now : Later true = (flags_at a p, refl) in
-          let From : Bool → Type 0 = λ v. (v ≡ true → (same_actor b a && nat_lt (length p) u) ≡ true) → cond v (Some (flags_at a p)) (horizon_flags a t p) ≡ Some g → Later (same_actor b a && nat_lt (length p) u) in
-          let from : From (same_actor b a && nat_lt (length p) t) = elim (same_actor b a && nat_lt (length p) t) as From [
-            | true ↦ λ passes _. subst Later (sym (passes refl)) now
-            | false ↦ λ _ f. elim (same_actor b a && nat_lt (length p) u) as Later [ true ↦ now | false ↦ before f ]
-          ] in
-          from (below-higher (same_actor b a) (length p) t u higher) e
-      later t u higher (_ ∷ p) e = later t u higher p e
+  flags-stay a g =
+      flags-later a (publish_horizon cl a.node (c a.node) h) (publish_horizon cl a.node (d a.node) h) (published-rises a.node) g h
 
 -- ---- what is told
 
@@ -124,7 +133,15 @@ tally-fewer : {X : Type 0} (p q r s : X → Bool) (xs : List X) → ((x : X) →
     → tally p xs + tally q xs ≤ tally r xs + tally s xs
 tally-fewer p q r s [] fewer = omega arith
 tally-fewer p q r s (x ∷ xs) fewer =
-    omega (arith, tally-fewer p q r s xs fewer, fewer x, tally-append p (x ∷ []) xs, tally-append q (x ∷ []) xs, tally-append r (x ∷ []) xs, tally-append s (x ∷ []) xs)
+    omega (
+      arith,
+      tally-fewer p q r s xs fewer,
+      fewer x,
+      tally-append p (x ∷ []) xs,
+      tally-append q (x ∷ []) xs,
+      tally-append r (x ∷ []) xs,
+      tally-append s (x ∷ []) xs,
+    )
 
 untold-fewer : (before after less all : Bool) → (before ≡ true → after ≡ true) → (less ≡ true → all ≡ true)
     → cond (before && all) 1 0 + cond less 1 0 ≤ cond (after && less) 1 0 + cond all 1 0
@@ -137,7 +154,8 @@ untold-fewer false after true false rises part = absurd (false≢true (part refl
 untold-fewer false after false all rises part = omega arith
 
 -- with higher horizons, of fewer notes, no more is noted and not told
-pub untold-shrinks : (cl : Cluster) (u v : Actor → ℕ) (s t : Note → Bool) → ((a : Actor) → u a ≤ v a) → ((x : Note) → s x ≡ true → t x ≡ true)
+pub untold-shrinks : (cl : Cluster) (u v : Actor → ℕ) (s t : Note → Bool)
+    → ((a : Actor) → u a ≤ v a) → ((x : Note) → s x ≡ true → t x ≡ true)
     → (h : List Event) → told_sum cl u t h + noted_sum cl s h ≤ told_sum cl v s h + noted_sum cl t h
 untold-shrinks cl u v s t rises part [] = omega arith
 untold-shrinks cl u v s t rises part (e ∷ p) =
@@ -149,17 +167,12 @@ untold-shrinks cl u v s t rises part (e ∷ p) =
 
 -- ---- known actors
 
-notice_facts-append : (xs ys : List Notice) → notice_facts (xs ++ ys) ≡ notice_facts xs ++ notice_facts ys
-notice_facts-append [] ys = refl
-notice_facts-append (delta facts ∷ xs) ys = ap (λ l. facts ++ l) (notice_facts-append xs ys) ∙ sym (append_assoc facts (notice_facts xs) (notice_facts ys))
-notice_facts-append (window_of s facts ∷ xs) ys = ap (λ l. facts ++ l) (notice_facts-append xs ys) ∙ sym (append_assoc facts (notice_facts xs) (notice_facts ys))
-notice_facts-append (final_of s facts ∷ xs) ys = ap (λ l. facts ++ l) (notice_facts-append xs ys) ∙ sym (append_assoc facts (notice_facts xs) (notice_facts ys))
-
 -- who is known stays known
 pub known-stays : (cl : Cluster) (g f : Fold) → IsWithin g f → IsPart (known_actors cl g) (known_actors cl f)
 known-stays cl g f within a known =
     let named = (known-named cl g a).0 known in
     let more = within named.0 in
-    let facts : notice_facts (f named.0) ≡ notice_facts (g named.0) ++ notice_facts more.0 = ap notice_facts more.1 ∙ notice_facts-append (g named.0) more.0 in
+    let facts : notice_facts (f named.0) ≡ notice_facts (g named.0) ++ notice_facts more.0 =
+    ap notice_facts more.1 ∙ notice_facts-append (g named.0) more.0 in
     let fact = subst (IsAmong named.2) (sym facts) (IsAmong-append_left named.2 (notice_facts (g named.0)) (notice_facts more.0) named.3) in
     (known-named cl f a).1 (named.0, named.1, named.2, fact, named.4)

@@ -1,19 +1,19 @@
 -- At a quiet point of m, every quiescent actor of m is dead in what is folded at m: the members of a quiet set on nodes
 -- that are up are no pseudoroots, and who has a positive edge to one holds it.
-use Rattle.std.proofs.Common.{◌≡◌, ◌<◌, ◌+◌, ◌&&◌, ℕ, Bool, true, false, not, List, [], ◌∷◌, refl, sym, ◌∙◌, ap, subst, inl, inr, arith, IsTrue, filter, sum_by, Some, unwrap_or}
-use Rattle.std.proofs.lemmas.Bool.{cases_lt, cond_both, or_from, and_parts, not-true, not-false}
+use Rattle.std.proofs.Common.{◌≡◌, ◌<◌, ◌+◌, ◌&&◌, ℕ, Bool, true, false, not, List, sym, ◌∙◌, ap, subst, inl, inr, arith, IsTrue, filter, sum_by, Some}
+use Rattle.std.proofs.lemmas.Bool.{cases_lt, or_from, and_parts, not-true, not-false}
 use Rattle.std.proofs.lemmas.Bool.Decides.{Decides-eqb, Decides-ltb}
 use Rattle.crgc_ids.specs.Actor.{Actor}
 use Rattle.crgc_ids.specs.Members.{IsAmong}
 use Rattle.crgc_ids.proofs.MembersLaws.{IsAmong-filter, IsAmong-from_filter}
 use Rattle.history_model.specs.declared.events.Event.{Event}
-use Rattle.history_model.specs.Cluster.{Cluster, same_actor}
+use Rattle.history_model.specs.Cluster.{Cluster}
 use Rattle.history_model.specs.Messages.{Message, is_to, mail, takes}
-use Rattle.history_model.specs.Facts.{Fact, flagged, Flags, Note, is_sent_to, is_created, names}
+use Rattle.history_model.specs.Facts.{Note, is_sent_to, is_created}
 use Rattle.history_model.specs.Held.{gifts, gave}
 use Rattle.history_model.specs.State.{is_up}
 use Rattle.history_model.specs.Folds.{cut_at, folded, is_lost}
-use Rattle.history_model.specs.Graph.{delta_facts, received_count, told_count, created_count, carried_count, admitted_count, released_count, is_balanced, has_edge, last_flags, own_flags, may_act}
+use Rattle.history_model.specs.Graph.{delta_facts, received_count, told_count, created_count, carried_count, admitted_count, released_count, is_balanced, has_edge, own_flags, may_act}
 use Rattle.history_model.specs.Sweeps.{dead_at}
 use Rattle.history_model.specs.Legal.{IsLegal}
 use Rattle.history_model.specs.Quiescent.{IsQuietPoint, IsQuietSet, IsQuiescent}
@@ -33,23 +33,11 @@ use Rattle.history_model.proofs.SoundnessBounds.{carries_other, counts_other, cr
 use Rattle.history_model.proofs.SoundnessTold.{is_receipt, is_release}
 use Rattle.history_model.proofs.CompletenessMail.{quiet-carried, quiet-takes}
 use Rattle.history_model.proofs.CompletenessTold.{flags-told, quiet-told}
+use Rattle.history_model.proofs.FoldSumsFlags.{last_flags-named}
 
 -- the nodes that are lost at m
 abbrev pub lost_at : Cluster → ℕ → List Event → ℕ → Bool
 lost_at cl m h = is_lost cl (folded cl m h)
-
--- the facts with an actor's flags name it
-last_flags-named : (a : Actor) (xs : List Fact) (g : Flags) → last_flags a xs ≡ Some g → (x : Fact) × IsAmong x xs × (names a x ≡ true)
-last_flags-named a [] g e = absurd (cc)
-last_flags-named a (flagged b flags ∷ xs) g e =
-    let later : last_flags a xs ≡ Some g → (x : Fact) × IsAmong x (flagged b flags ∷ xs) × (names a x ≡ true) = λ k.
-    let found = last_flags-named a xs g k in
-    (found.0, inr found.1, found.2) in
-    cond_both (same_actor b a) (Some (unwrap_or (last_flags a xs) flags)) (last_flags a xs) (λ o. o ≡ Some g → (x : Fact) × IsAmong x (flagged b flags ∷ xs) × (names a x ≡ true))
-    (λ s _. (flagged b flags, inl refl, s)) (λ _. later) e
-last_flags-named a (_ ∷ xs) g e =
-    let found = last_flags-named a xs g e in
-    (found.0, inr found.1, found.2)
 
 -- ---- counts at a quiet point
 

@@ -21,6 +21,7 @@ use Rattle.history_model.proofs.AccountsBirths.{born-grows, born-on_node, notes-
 use Rattle.history_model.proofs.FoldSumsHorizons.{flush_horizon-last, last_flush, last_flush-here, last_flush-other}
 use Rattle.history_model.proofs.FoldSumsLogs.{log-flushed, log-next}
 use Rattle.history_model.proofs.FoldSumsNotes.{told-next}
+use Rattle.crgc_ids.proofs.MembersLaws.{append-empty}
 
 -- ---- flushes below a position
 
@@ -32,10 +33,6 @@ AreFlushesBelow a t (e ∷ p) = (is_flush_of a e ≡ true → length p < t) × A
 flushes-within : (a : Actor) (t : ℕ) (h : List Event) → length h ≤ t → AreFlushesBelow a t h
 flushes-within a t [] below = tt
 flushes-within a t (e ∷ p) below = (λ _. omega arith, flushes-within a t p (omega arith))
-
-append-empty : {A : Type 0} (xs ys : List A) → xs ++ ys ≡ [] → xs ≡ []
-append-empty [] ys e = refl
-append-empty (x ∷ xs) ys e = absurd (cc)
 
 append-not_empty : {A : Type 0} (xs : List A) (y : A) (ys : List A) → xs ++ y ∷ ys ≡ [] → ⊥
 append-not_empty [] y ys e = cc
@@ -133,7 +130,7 @@ told-within cl u t h all q [] parts = refl
 told-within cl u t h all q (e ∷ p) parts =
     told-next cl u t e p (λ x. all q e p x parts) (told-within cl u t h all (q ++ e ∷ []) p (parts ∙ sym (append_assoc q (e ∷ []) p)))
 
-blank-empty : (xs : List Fact) → is_blank xs ≡ true → xs ≡ []
+pub blank-empty : (xs : List Fact) → is_blank xs ≡ true → xs ≡ []
 blank-empty [] blank = refl
 blank-empty (x ∷ xs) blank = absurd (false≢true blank)
 

@@ -3,7 +3,7 @@
 use Rattle.std.proofs.Common.{◌≡◌, ◌<◌, ◌≤◌, ◌&&◌, ℕ, suc, Bool, true, false, cond, List, [], ◌∷◌, ◌++◌, length, take, refl, sym, ◌∙◌, ap, inl, inr, arith, length-append}
 use Rattle.std.proofs.Math.Seq.{take-nil}
 use Rattle.std.proofs.lemmas.Bool.{cases_lt, lt-ltb, ltb-false, ltb-true}
-use Rattle.std.proofs.lemmas.List.{append-nil, append_assoc, take_all, take-append-le}
+use Rattle.std.proofs.lemmas.List.{append-nil, take_all, take-append-le}
 use Rattle.std.specs.Prelude.{◌==◌, nat_lt}
 use Rattle.crgc_ids.specs.Actor.{Actor}
 use Rattle.history_model.specs.declared.events.Event.{Event}
@@ -12,6 +12,7 @@ use Rattle.history_model.specs.Cluster.{Cluster}
 use Rattle.history_model.specs.Facts.{Fact}
 use Rattle.history_model.specs.Streams.{Notice, delta, window_of, final_of, entry, queue, stream, window}
 use Rattle.history_model.specs.Graph.{delta_facts}
+use Rattle.history_model.proofs.JoinedBulletins.{delta_facts-append}
 use Rattle.history_model.proofs.Sums.{publish_horizon}
 use Rattle.history_model.proofs.FoldSumsHorizons.{is_flush_on, publish_horizon-within}
 
@@ -27,12 +28,6 @@ pub record IsToldUntil (cl : Cluster) (o : ℕ) (X : Type 0) (join : X → X →
   pub other : (e : Event) (p : List Event) → is_flush_on o e ≡ false → until (suc (length p)) (e ∷ p) ≡ until (length p) p
 
 -- ---- the first bulletins of a stream that grew by one
-
-delta_facts-append : (xs ys : List Notice) → delta_facts (xs ++ ys) ≡ delta_facts xs ++ delta_facts ys
-delta_facts-append [] ys = refl
-delta_facts-append (delta facts ∷ xs) ys = ap (λ l. facts ++ l) (delta_facts-append xs ys) ∙ sym (append_assoc facts (delta_facts xs) (delta_facts ys))
-delta_facts-append (window_of s facts ∷ xs) ys = delta_facts-append xs ys
-delta_facts-append (final_of s facts ∷ xs) ys = delta_facts-append xs ys
 
 taken_more : (n : ℕ) (xs : List Notice) (y : Notice) → length xs < n → delta_facts (take n (xs ++ y ∷ [])) ≡ delta_facts (take n xs) ++ delta_facts (y ∷ [])
 taken_more n xs y l =

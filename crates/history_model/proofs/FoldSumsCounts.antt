@@ -22,7 +22,7 @@ use Rattle.history_model.proofs.Sums.{flush_horizon, publish_horizon, told_horiz
 use Rattle.history_model.proofs.FoldSumsNotes.{told-none, told-same}
 use Rattle.history_model.proofs.FoldSumsHorizons.{flush_horizon-below}
 use Rattle.history_model.proofs.FoldSumsStreams.{deltas-told}
-use Rattle.history_model.proofs.Lists.{tally-append}
+use Rattle.history_model.proofs.Lists.{tally-append, tally-one}
 
 -- ---- nodes outside the cluster publish nothing
 
@@ -56,9 +56,6 @@ tally-split r s t (x ∷ xs) e =
     let second = tally-one t x xs in
     let here = e x in
     omega arith
-  where
-    tally-one : {X : Type 0} (test : X → Bool) (y : X) (ys : List X) → tally test (y ∷ ys) ≡ tally test ys + cond (test y) 1 0
-    tally-one test y ys = elim (test y) as (λ v. cond v (tally test ys + 1) (tally test ys) ≡ tally test ys + cond v 1 0) [ true ↦ omega arith | false ↦ omega arith ]
 
 told-split : (cl : Cluster) (u : Actor → ℕ) (r s t : Note → Bool) (h : List Event) → ((x : Note) → cond (r x) 1 0 ≡ cond (s x) 1 0 + cond (t x) 1 0) → told_sum cl u r h ≡ told_sum cl u s h + told_sum cl u t h
 told-split cl u r s t [] e = omega arith

@@ -58,13 +58,15 @@ module _ (cl : Cluster) (lost : ℕ → Bool) (out : Actor → Bool) (f : Fold) 
   AreClosedWithout xs = (b a : Actor) → IsAmong a xs → has_edge cl lost f b a ≡ true → out b ≡ false → IsAmong b xs
 
   -- a may stay among xs exactly where what has a positive edge to it is inside or left out
-  unreached-closed : (xs : List Actor) (a : Actor) → is_unreached cl lost out f xs a ≡ true → (b : Actor) → has_edge cl lost f b a ≡ true → out b ≡ false → IsAmong b xs
+  unreached-closed : (xs : List Actor) (a : Actor) → is_unreached cl lost out f xs a ≡ true
+      → (b : Actor) → has_edge cl lost f b a ≡ true → out b ≡ false → IsAmong b xs
   unreached-closed xs a t b edge kept =
       let test : Actor → Bool = λ c. holds_actor xs c || (out c || not (has_edge cl lost f c a)) in
       let passed = list_all-true test b (known_actors cl f) t (edge-known cl lost f b a edge).0 in
       (holds-among xs b).0 (not_excused (holds_actor xs b) (out b) (has_edge cl lost f b a) passed edge kept)
 
-  closed-unreached : (xs : List Actor) (a : Actor) → ((b : Actor) → has_edge cl lost f b a ≡ true → out b ≡ false → IsAmong b xs) → is_unreached cl lost out f xs a ≡ true
+  closed-unreached : (xs : List Actor) (a : Actor) → ((b : Actor) → has_edge cl lost f b a ≡ true → out b ≡ false → IsAmong b xs)
+      → is_unreached cl lost out f xs a ≡ true
   closed-unreached xs a closed =
       list_all-members (λ b. holds_actor xs b || (out b || not (has_edge cl lost f b a))) (known_actors cl f)
       (λ b _. excused (holds_actor xs b) (out b) (has_edge cl lost f b a) (λ edge kept. (holds-among xs b).1 (closed b edge kept)))
@@ -79,7 +81,8 @@ module _ (cl : Cluster) (lost : ℕ → Bool) (out : Actor → Bool) (f : Fold) 
       unreached-closed (dead_without cl lost out f) a (greatest-fit (is_unreached cl lost out f) (candidates cl lost out f) a h) b edge kept
 
   -- each closed list of candidates lies within them
-  pub dead_without-greatest : (xs : List Actor) → ((a : Actor) → IsAmong a xs → IsCandidateWithout a) → AreClosedWithout xs → IsPart xs (dead_without cl lost out f)
+  pub dead_without-greatest : (xs : List Actor) → ((a : Actor) → IsAmong a xs → IsCandidateWithout a)
+      → AreClosedWithout xs → IsPart xs (dead_without cl lost out f)
   dead_without-greatest xs fit closed =
       greatest-contains (is_unreached cl lost out f) unreached-monotone (candidates cl lost out f) xs
       (λ a h. candidate-among a (fit a h))
@@ -87,18 +90,15 @@ module _ (cl : Cluster) (lost : ℕ → Bool) (out : Actor → Bool) (f : Fold) 
 
 -- ---- the dead of a fold
 
--- a candidate: its node is not lost
+-- candidates and closed lists where the actors of lost nodes are left out
 abbrev pub IsCandidate : Cluster → (ℕ → Bool) → Fold → Actor → Type 0
-IsCandidate cl lost f a =
-    IsAmong a (known_actors cl f) × (lost a.node ≡ false) × (is_pseudoroot cl lost f a ≡ false)
+IsCandidate cl lost f a = IsCandidateWithout cl lost (λ b. lost b.node) f a
 
 abbrev pub AreCandidates : Cluster → (ℕ → Bool) → Fold → List Actor → Type 0
 AreCandidates cl lost f xs = (a : Actor) → IsAmong a xs → IsCandidate cl lost f a
 
--- no actor outside the list and the lost nodes has a positive edge to a member
 abbrev pub AreClosed : Cluster → (ℕ → Bool) → Fold → List Actor → Type 0
-AreClosed cl lost f xs =
-    (b a : Actor) → IsAmong a xs → has_edge cl lost f b a ≡ true → lost b.node ≡ false → IsAmong b xs
+AreClosed cl lost f xs = AreClosedWithout cl lost (λ b. lost b.node) f xs
 
 -- a dead actor is known, its node is not lost, its own entry says neither busy nor root, and its balance is 0
 pub record IsDeadActor (cl : Cluster) (lost : ℕ → Bool) (f : Fold) (a : Actor) : Type 0 where

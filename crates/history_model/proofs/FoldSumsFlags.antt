@@ -1,14 +1,14 @@
 -- The last flags of an actor in logs and entries: `FoldSumsStreams` uses this where a flush moves its flags into an
 -- entry.
 use Rattle.std.proofs.Common.{◌≡◌, suc, Bool, true, false, cond, List, [], ◌∷◌, ◌++◌, length, refl, sym, ◌∙◌, ap, inl, inr, arith}
-use Rattle.std.proofs.lemmas.Bool.{cases_Bool}
+use Rattle.std.proofs.lemmas.Bool.{cases_Bool, cond_both}
 use Rattle.std.specs.Prelude.{Option, Some, None, unwrap_or}
 use Rattle.crgc_ids.specs.Actor.{Actor}
 use Rattle.crgc_ids.specs.Members.{IsAmong}
 use Rattle.history_model.specs.declared.events.Event.{Event}
 use Rattle.history_model.specs.declared.events.Event.TheVariants.{Flush}
 use Rattle.history_model.specs.Cluster.{Cluster, same_actor}
-use Rattle.history_model.specs.Facts.{Flags, Fact, flagged, is_flagged, Note, notes}
+use Rattle.history_model.specs.Facts.{Flags, Fact, flagged, is_flagged, Note, notes, names}
 use Rattle.history_model.specs.Streams.{entry, facts_by, flags_at, is_flush_of, log}
 use Rattle.history_model.specs.Graph.{last_flags}
 use Rattle.history_model.proofs.Basics.{same_actor-equal}
@@ -21,11 +21,11 @@ abbrev pub newer : Option Flags → Option Flags → Option Flags
 newer old None = old
 newer old (Some g) = Some g
 
-newer-none : (y : Option Flags) → y ≡ newer None y
+pub newer-none : (y : Option Flags) → y ≡ newer None y
 newer-none None = refl
 newer-none (Some g) = refl
 
-newer-unwrap : (r y : Option Flags) (g : Flags) → Some (unwrap_or (newer r y) g) ≡ newer (Some (unwrap_or r g)) y
+pub newer-unwrap : (r y : Option Flags) (g : Flags) → Some (unwrap_or (newer r y) g) ≡ newer (Some (unwrap_or r g)) y
 newer-unwrap r None g = refl
 newer-unwrap r (Some f) g = refl
 
@@ -43,6 +43,19 @@ last_flags-append a (flagged b g ∷ xs) ys =
     ]
 last_flags-append a (x ∷ xs) ys = last_flags-append a xs ys
 
+-- the facts with an actor's flags name it
+pub last_flags-named : (a : Actor) (xs : List Fact) (g : Flags) → last_flags a xs ≡ Some g → (x : Fact) × IsAmong x xs × (names a x ≡ true)
+last_flags-named a [] g e = absurd (cc)
+last_flags-named a (flagged b flags ∷ xs) g e =
+    let later : last_flags a xs ≡ Some g → (x : Fact) × IsAmong x (flagged b flags ∷ xs) × (names a x ≡ true) = λ k.
+    let found = last_flags-named a xs g k in
+    (found.0, inr found.1, found.2) in
+    cond_both (same_actor b a) (Some (unwrap_or (last_flags a xs) flags)) (last_flags a xs) (λ o. o ≡ Some g → (x : Fact) × IsAmong x (flagged b flags ∷ xs) × (names a x ≡ true))
+    (λ s _. (flagged b flags, inl refl, s)) (λ _. later) e
+last_flags-named a (_ ∷ xs) g e =
+    let found = last_flags-named a xs g e in
+    (found.0, inr found.1, found.2)
+
 last_flags-skip : (a : Actor) (x : Fact) (xs : List Fact) → is_flagged a x ≡ false → last_flags a (x ∷ xs) ≡ last_flags a xs
 last_flags-skip a (flagged b g) xs f = ap (λ v. cond v (Some (unwrap_or (last_flags a xs) g)) (last_flags a xs)) f
 last_flags-skip a x xs f = refl
@@ -57,7 +70,7 @@ facts_by-unflagged a b (x ∷ ns) plain =
     ]
 
 -- a log has no flags
-log-unflagged : (cl : Cluster) (a b : Actor) (h : List Event) → last_flags a (log cl b h) ≡ None
+pub log-unflagged : (cl : Cluster) (a b : Actor) (h : List Event) → last_flags a (log cl b h) ≡ None
 log-unflagged cl a b [] = refl
 log-unflagged cl a b (e ∷ p) =
     let unflagged = notes-kinds (λ x. is_flagged a x.fact ≡ false) (λ _ _. refl) (λ _ _ _. refl) (λ _. refl) (λ _ _. refl) cl e p in

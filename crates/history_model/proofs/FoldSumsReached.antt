@@ -26,7 +26,8 @@ list_all-false {X} test (y ∷ ys) e =
 
 module _ (cl : Cluster) (lost : ℕ → Bool) (out : Actor → Bool) (f : Fold) where
   -- a chain goes on by one more edge
-  chain-next : (r b a : Actor) (bs : List Actor) → IsChain cl lost out f r bs b → out b ≡ false → has_edge cl lost f b a ≡ true → (cs : List Actor) × IsChain cl lost out f r cs a
+  chain-next : (r b a : Actor) (bs : List Actor) → IsChain cl lost out f r bs b → out b ≡ false → has_edge cl lost f b a ≡ true
+      → (cs : List Actor) × IsChain cl lost out f r cs a
   chain-next r b a [] e kept edge = (a ∷ [], subst (λ x. IsChain cl lost out f x (a ∷ []) a) (sym e) (kept, edge, refl))
   chain-next r b a (c ∷ cs) chain kept edge =
       let later = chain-next c b a cs chain.2 kept edge in
@@ -71,12 +72,14 @@ module _ (cl : Cluster) (lost : ℕ → Bool) (out : Actor → Bool) (f : Fold) 
   covers-prune (suc n) xs covers = covers-prune n (filter (is_unreached cl lost out f xs) xs) (covers-filter xs covers)
 
   -- a known actor that is not left out is dead, or a pseudoroot reaches it
-  pub dead-or_reached : (a : Actor) → IsAmong a (known_actors cl f) → out a ≡ false → IsAmong a (dead_without cl lost out f) ⊎ IsReachedWithout cl lost out f a
+  pub dead-or_reached : (a : Actor) → IsAmong a (known_actors cl f) → out a ≡ false
+      → IsAmong a (dead_without cl lost out f) ⊎ IsReachedWithout cl lost out f a
   unfolding greatest
   dead-or_reached = covers-prune (length (candidates cl lost out f)) (candidates cl lost out f) covers-candidates
 
   -- the dead are closed under chains backwards
-  dead-chain : (r : Actor) (bs : List Actor) (a : Actor) → IsChain cl lost out f r bs a → IsAmong a (dead_without cl lost out f) → IsAmong r (dead_without cl lost out f)
+  dead-chain : (r : Actor) (bs : List Actor) (a : Actor) → IsChain cl lost out f r bs a
+      → IsAmong a (dead_without cl lost out f) → IsAmong r (dead_without cl lost out f)
   dead-chain r [] a e h = subst (λ x. IsAmong x (dead_without cl lost out f)) (sym e) h
   dead-chain r (b ∷ bs) a chain h = dead_without-closed cl lost out f r b (dead-chain b bs a chain.2 h) chain.1 chain.0
 
@@ -87,13 +90,15 @@ module _ (cl : Cluster) (lost : ℕ → Bool) (out : Actor → Bool) (f : Fold) 
       false≢true (sym start.2 ∙ reached.2)
 
   -- so the dead are the known actors not left out that are not reached
-  pub dead_without-unreached : (a : Actor) → IsAmong a (dead_without cl lost out f) ↔ (IsAmong a (known_actors cl f) × (out a ≡ false) × ¬ IsReachedWithout cl lost out f a)
+  pub dead_without-unreached : (a : Actor) → IsAmong a (dead_without cl lost out f)
+      ↔ (IsAmong a (known_actors cl f) × (out a ≡ false) × ¬ IsReachedWithout cl lost out f a)
   dead_without-unreached a = (
     λ h. (let c = dead_without-candidate cl lost out f a h in (c.0, c.1, dead-not_reached a h)),
     λ all. elim (dead-or_reached a all.0 all.1) [ inl h ↦ h | inr reached ↦ absurd (all.2 reached) ],
   )
 
 -- the dead of a fold are those where the actors of lost nodes are left out
-pub dead-unreached : (cl : Cluster) (lost : ℕ → Bool) (f : Fold) (a : Actor) → IsAmong a (dead cl lost f) ↔ (IsAmong a (known_actors cl f) × (lost a.node ≡ false) × ¬ IsReached cl lost f a)
+pub dead-unreached : (cl : Cluster) (lost : ℕ → Bool) (f : Fold) (a : Actor) → IsAmong a (dead cl lost f)
+    ↔ (IsAmong a (known_actors cl f) × (lost a.node ≡ false) × ¬ IsReached cl lost f a)
 unfolding dead
 dead-unreached cl lost f = dead_without-unreached cl lost (λ b. lost b.node) f

@@ -13,6 +13,7 @@ pub mod FoldSumsNotes
 pub mod FoldSumsHorizons
 pub mod FoldSumsLogs
 pub mod FoldSumsFlags
+pub mod JoinedBulletins
 pub mod FoldSumsBulletins
 pub mod FoldSumsStreams
 pub mod FoldSumsCounts
@@ -47,3 +48,17 @@ pub mod CompactionGrowth
 pub mod CompactionDead
 pub mod CompactedSweeps
 mod CompactionExamples
+pub mod TellsRows
+pub mod TellsCounts
+pub mod TellsNames
+pub mod TellsBulletins
+pub mod TellsWindows
+pub mod TellsEntries
+pub mod TellsFacts
+pub mod OneMoreBulletin
+pub mod OneMoreLost
+pub mod LiveCounts
+pub mod ExamplesTests
+mod Examples
+mod ExamplesEvents
+mod TellsExamples

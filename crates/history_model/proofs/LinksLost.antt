@@ -56,7 +56,7 @@ quiet-lost cl m h legal here quiet n below =
     let final : (s d : ℕ) → s < cl.nodes → d < cl.nodes → is_up s h ≡ false → is_up d h ≡ true
     → IsAmong (s, d) (final_links cl f) = λ s d sl dl gone up.
     let whole : f d ≡ stream cl d h = take_all (cut_at cl m h d) (stream cl d h) (omega (arith, quiet.folded d dl up)) in
-    final_links-member cl f s d dl (subst (λ xs. IsAmong (s, d) (links_into d xs)) (sym whole) (closed-final cl h s d (quiet.removed s d sl dl gone up))) in
+    final_links-member cl f s d dl (subst (λ xs. IsAmong (s, d) (links_into d xs)) (sym whole) (closed-final cl h s d (quiet.closed s d sl dl gone up))) in
     let are_lost : IsLostSet cl.nodes (final_links cl f) down = λ s k.
     let found = IsAmong-from_filter (λ j. not (is_up j h)) s (nodes_below cl.nodes) k in
     let range = IsAmong-from_range s 0 cl.nodes found.0 in

@@ -22,7 +22,8 @@ use Rattle.history_model.specs.Settled.{AreSettled, admitted_on}
 use Rattle.history_model.proofs.Basics.{eqb-refl, same_actor-equal, legal-kept, same_actor-sym}
 use Rattle.history_model.proofs.LinksSettled.{link-equal}
 use Rattle.history_model.proofs.LinksSums.{nodes-point, sum_by-filter, sum_by-none, sum_by-same, tally-flat_map, tally-sum_by}
-use Rattle.history_model.proofs.LinksWindows.{link_facts-append, told_from, windows-told}
+use Rattle.history_model.proofs.JoinedBulletins.{link_facts-append}
+use Rattle.history_model.proofs.LinksWindows.{told_from, windows-told}
 use Rattle.history_model.proofs.Lists.{tally-append}
 
 -- ---- where messages come from, and go to

@@ -19,18 +19,12 @@ use Rattle.history_model.specs.Folds.{Fold, fold_to, links_into, final_links, lo
 use Rattle.history_model.specs.Legal.{IsLegal}
 use Rattle.history_model.specs.Settled.{AreSettled, admitted_on}
 use Rattle.history_model.proofs.Basics.{eqb-refl, legal-kept}
+use Rattle.history_model.proofs.JoinedBulletins.{links_into-append}
 use Rattle.history_model.proofs.LinksWindows.{link_facts-skip, told_from, windows-told}
 use Rattle.history_model.proofs.AccountsBirths.{births-on_nodes}
 use Rattle.history_model.proofs.Lists.{IsAmong-flat_map, IsAmong-from_flat_map, place-within}
 
 -- ---- finals and removals
-
--- the finals of joined bulletins
-pub links_into-append : (d : ℕ) (xs ys : List Notice) → links_into d (xs ++ ys) ≡ links_into d xs ++ links_into d ys
-links_into-append d [] ys = refl
-links_into-append d (final_of s facts ∷ xs) ys = ap (λ ls. (s, d) ∷ ls) (links_into-append d xs ys)
-links_into-append d (delta facts ∷ xs) ys = links_into-append d xs ys
-links_into-append d (window_of s facts ∷ xs) ys = links_into-append d xs ys
 
 -- a bulletin that is no final may be put last
 links_into-skip : (d : ℕ) (xs : List Notice) (n : Notice) (b : Bool) → links_into d (n ∷ []) ≡ []

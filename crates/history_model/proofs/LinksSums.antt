@@ -1,7 +1,7 @@
 -- Sums and tallies over lists, and sums over the nodes of a cluster: what a fold admits from lost nodes is summed node
 -- by node in `LinksMail`.
 use Rattle.std.proofs.Common.{◌≡◌, ◌≢◌, ◌≤◌, ◌<◌, ◌+◌, ℕ, zero, suc, Bool, true, false, cond, List, [], ◌∷◌, sum_by, flat_map, refl, sym, ◌∙◌, ap, inl, inr, arith}
-use Rattle.std.proofs.lemmas.Bool.{cases_eq}
+use Rattle.std.proofs.lemmas.Bool.{cases_eq, cases_lt}
 use Rattle.std.proofs.lemmas.List.Sums.{sum_by-cons}
 use Rattle.std.specs.List.{filter, range_with_len}
 use Rattle.crgc_ids.specs.Nodes.{nodes_below}
@@ -28,6 +28,34 @@ module _ {X : Type 0} where
       let here = none x (inl refl) in
       let later = sum_by-none f xs (λ y m. none y (inr m)) in
       sum_by-cons f x xs ∙ omega (arith, here, later)
+
+  -- a sum is no less than what a member weighs
+  pub sum_by-member : (w : X → ℕ) (x : X) (xs : List X) → IsAmong x xs → w x ≤ sum_by w xs
+  sum_by-member w x [] m = absurd m
+  sum_by-member w x (y ∷ ys) (inl e) = omega (arith, sum_by-cons w y ys, ap w e)
+  sum_by-member w x (y ∷ ys) (inr m) = omega (arith, sum_by-cons w y ys, sum_by-member w x ys m)
+
+  -- so it counts where a member counts
+  pub sum_by-positive : (w : X → ℕ) (x : X) (xs : List X) → IsAmong x xs → 0 < w x → 0 < sum_by w xs
+  sum_by-positive w x xs m some = omega (arith, sum_by-member w x xs m, some)
+
+  -- and a member counts where it does
+  pub sum_by-some : (w : X → ℕ) (xs : List X) → 0 < sum_by w xs → (x : X) × IsAmong x xs × (0 < w x)
+  sum_by-some w [] some = absurd (omega arith)
+  sum_by-some w (x ∷ xs) some =
+      elim (cases_lt 0 (w x)) [
+        | inl here ↦ (x, inl refl, here)
+        | inr none ↦ (
+            let found = sum_by-some w xs (omega (arith, some, none, sum_by-cons w x xs)) in
+            (found.0, inr found.1, found.2)
+            )
+      ]
+
+  -- a sum of sums
+  pub sum_by-both : (f g h : X → ℕ) (xs : List X) → ((x : X) → f x ≡ g x + h x) → sum_by f xs ≡ sum_by g xs + sum_by h xs
+  sum_by-both f g h [] both = refl
+  sum_by-both f g h (x ∷ xs) both =
+      omega (arith, sum_by-both f g h xs both, both x, sum_by-cons f x xs, sum_by-cons g x xs, sum_by-cons h x xs)
 
   -- what a filter takes away may be summed, where it counts nothing
   pub sum_by-filter : (f : X → ℕ) (test : X → Bool) (xs : List X) → ((x : X) → test x ≡ false → f x ≡ 0)

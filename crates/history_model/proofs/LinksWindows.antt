@@ -11,23 +11,11 @@ use Rattle.history_model.specs.Facts.{Fact, message_facts}
 use Rattle.history_model.specs.Streams.{Notice, delta, window_of, final_of, queue, window, stream}
 use Rattle.history_model.specs.Graph.{link_facts}
 use Rattle.history_model.specs.Settled.{admitted_on}
+use Rattle.history_model.proofs.JoinedBulletins.{link_facts-append}
 
 -- what the windows and finals of links from s tell
 abbrev pub told_from : ℕ → List Notice → List Fact
 told_from s xs = link_facts (λ x. x == s) xs
-
--- put before joined lists, or not
-before_joined : (v : Bool) (facts both first second : List Fact)
-    → both ≡ first ++ second → cond v (facts ++ both) both ≡ cond v (facts ++ first) first ++ second
-before_joined true facts both first second e = ap (λ xs. facts ++ xs) e ∙ sym (append_assoc facts first second)
-before_joined false facts both first second e = e
-
--- joined bulletins tell what both tell
-pub link_facts-append : (t : ℕ → Bool) (xs ys : List Notice) → link_facts t (xs ++ ys) ≡ link_facts t xs ++ link_facts t ys
-link_facts-append t [] ys = refl
-link_facts-append t (delta facts ∷ xs) ys = link_facts-append t xs ys
-link_facts-append t (window_of k facts ∷ xs) ys = before_joined (t k) facts _ _ _ (link_facts-append t xs ys)
-link_facts-append t (final_of k facts ∷ xs) ys = before_joined (t k) facts _ _ _ (link_facts-append t xs ys)
 
 -- a bulletin that tells nothing of a link may be put last
 pub link_facts-skip : (t : ℕ → Bool) (xs : List Notice) (n : Notice) (b : Bool) → link_facts t (n ∷ []) ≡ []

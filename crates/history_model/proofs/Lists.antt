@@ -76,7 +76,11 @@ tally-append test (x ∷ xs) ys =
       | false ↦ before
     ]
 
--- one item more counts no less
+-- one item more counts, or not
+pub tally-one : {X : Type 0} (test : X → Bool) (x : X) (xs : List X) → tally test (x ∷ xs) ≡ tally test xs + cond (test x) 1 0
+tally-one test x xs = elim (test x) as (λ v. cond v (tally test xs + 1) (tally test xs) ≡ tally test xs + cond v 1 0) [ true ↦ omega arith | false ↦ omega arith ]
+
+-- it counts no less
 pub tally-more : {X : Type 0} (test : X → Bool) (x : X) (xs : List X) → tally test xs ≤ tally test (x ∷ xs)
 tally-more test x xs = omega (arith, tally-append test (x ∷ []) xs)
 

@@ -1,6 +1,6 @@
 -- The rising list of given actors, each once: its members, its order, and how long it is.
 use Rattle.std.proofs.Common.{◌≡◌, ◌+◌, ◌||◌, ◌↔◌, ◌⊎◌, suc, Bool, true, false, cond, List, [], ◌∷◌, length, refl, sym, ◌∙◌, ap, subst, inl, inr, arith}
-use Rattle.std.proofs.lemmas.Bool.{cond_both, false≢true}
+use Rattle.std.proofs.lemmas.Bool.{cond_both, false≢true, false_from_ne_true}
 use Rattle.std.proofs.lemmas.Bool.Decides.{same_from_decides}
 use Rattle.std.specs.Bool.{Decides}
 use Rattle.std.specs.List.{AllByRecursion, list_any}
@@ -110,13 +110,7 @@ among-decides xs a = (
 )
 
 not_among : (a : Actor) (xs : List Actor) → (IsAmong a xs → ⊥) → list_any (same_actor a) xs ≡ false
-not_among a xs none =
-    let Told : Bool → Type 0 = λ v. list_any (same_actor a) xs ≡ v → v ≡ false in
-    let told : Told (list_any (same_actor a) xs) = elim (list_any (same_actor a) xs) as Told [
-      | true ↦ λ t. absurd (none ((among-decides xs a).0 t))
-      | false ↦ λ _. refl
-    ] in
-    told refl
+not_among a xs none = false_from_ne_true (list_any (same_actor a) xs) (λ t. none ((among-decides xs a).0 t))
 
 -- an actor that is put into a rising list makes it longer, unless the list has it
 length-insert : (a : Actor) (xs : List Actor) → IsRising IsActorBelow xs → length (insert_actor a xs) ≡ length xs + cond (list_any (same_actor a) xs) 0 1

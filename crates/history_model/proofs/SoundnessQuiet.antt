@@ -21,7 +21,8 @@ use Rattle.history_model.proofs.AccountsBirths.{born-on_node, mail-born, message
 use Rattle.history_model.proofs.AccountsMail.{mail-open, mail-sent}
 use Rattle.history_model.proofs.AccountsNotes.{carries_from, created-noted}
 use Rattle.history_model.proofs.AccountsTaken.{takes-mail, gave-got}
-use Rattle.history_model.proofs.SoundnessSums.{carried-sum, sum_by-member, tally-member}
+use Rattle.history_model.proofs.LinksSums.{sum_by-member}
+use Rattle.history_model.proofs.SoundnessSums.{carried-sum, tally-member}
 use Rattle.history_model.proofs.SoundnessTold.{IsToldSet, AreTold, received-below, released-below}
 use Rattle.history_model.proofs.FoldSumsKnown.{created-names}
 use Rattle.history_model.proofs.SoundnessBounds.{carries_other, counts_other, carried-split, creations-given, mail-split, no_hold, no_take, sendings-sent, taken-carried}
@@ -30,7 +31,7 @@ use Rattle.history_model.proofs.SoundnessStep.{told-always}
 -- ---- births
 
 -- the recipient of a live message is born
-live-born : (cl : Cluster) (h : List Event) → IsLegal cl h → (m : Message) → IsLive h m → IsTrue (is_born m.to h)
+pub live-born : (cl : Cluster) (h : List Event) → IsLegal cl h → (m : Message) → IsLive h m → IsTrue (is_born m.to h)
 live-born cl h legal m live =
     elim live.1 [
       | inl waits ↦ (mail-born cl h legal m.to m (waiting-among m.to h m waits)).1
@@ -41,7 +42,7 @@ live-born cl h legal m live =
     ]
 
 -- who got a reference is born
-got-born : (cl : Cluster) (h : List Event) → IsLegal cl h → (b a : Actor) → 0 < got cl b a h → IsTrue (is_born b h)
+pub got-born : (cl : Cluster) (h : List Event) → IsLegal cl h → (b a : Actor) → 0 < got cl b a h → IsTrue (is_born b h)
 got-born cl h legal b a some =
     let weight : Message → ℕ = λ m. tally (same_actor a) m.refs in
     let noted = created-noted cl h (λ _. true) b a refl in

@@ -1,5 +1,5 @@
 -- Sums over messages, split by where the messages come from. The bounds of soundness compare them with what is told.
-use Rattle.std.proofs.Common.{◌≡◌, ◌<◌, ◌≤◌, ◌+◌, ◌&&◌, ℕ, Bool, true, false, not, List, [], ◌∷◌, length, refl, sym, ◌∙◌, ap, inl, inr, arith}
+use Rattle.std.proofs.Common.{◌≡◌, ◌<◌, ◌+◌, ◌&&◌, ℕ, Bool, true, false, not, List, [], ◌∷◌, length, refl, sym, ◌∙◌, ap, inl, inr, arith}
 use Rattle.std.proofs.lemmas.List.Sums.{sum_by-cons}
 use Rattle.std.specs.Prelude.{cond}
 use Rattle.std.specs.List.{filter, sum_by}
@@ -49,12 +49,6 @@ module _ {X : Type 0} where
   pub sum_by-one : (xs : List X) → sum_by (λ _. 1) xs ≡ length xs
   sum_by-one [] = refl
   sum_by-one (x ∷ xs) = omega (arith, sum_by-one xs, sum_by-cons {X = X} (λ _. 1) x xs)
-
-  -- a sum is no less than what a member weighs
-  pub sum_by-member : (w : X → ℕ) (x : X) (xs : List X) → IsAmong x xs → w x ≤ sum_by w xs
-  sum_by-member w x [] m = absurd m
-  sum_by-member w x (y ∷ ys) (inl e) = omega (arith, sum_by-cons w y ys, ap w e)
-  sum_by-member w x (y ∷ ys) (inr m) = omega (arith, sum_by-cons w y ys, sum_by-member w x ys m)
 
 -- ---- references
 

@@ -15,7 +15,7 @@ use Rattle.history_model.specs.State.{is_busy, is_root}
 use Rattle.history_model.specs.Streams.{facts_by, is_flush_of, log, flags_at, flushed_flags, are_flags, is_blank, can_flush}
 use Rattle.history_model.specs.Legal.{IsLegal}
 use Rattle.history_model.specs.Quiescent.{IsLive, IsQuietSet, IsQuiescent}
-use Rattle.history_model.specs.Uses.{actors_in, sent_by, taken_by, messages_in, IsUnused}
+use Rattle.history_model.specs.Uses.{actors_in, sent_by, taken_by, messages_in, IsUnused, OnlyLiveMove}
 use Rattle.history_model.proofs.Basics.{legal-before, legal-kept, same_actor-equal, same_actor-refl}
 use Rattle.history_model.proofs.AccountsBirths.{each-notes_of_spawn}
 use Rattle.history_model.proofs.FoldSumsLogs.{log-next}
@@ -65,9 +65,8 @@ live-since cl (e ∷ q) h legal m live =
     ]
 
 -- so whatever an event moves was live before, or was sent since
-pub moved-since : (cl : Cluster) (e : Event) (q h : List Event) (m : Message) → IsLegal cl (e ∷ (q ++ h)) → IsAmong m (messages_in e (q ++ h))
-    → IsLive h m ⊎ IsAmong m (flat_map sent_by (e ∷ q))
-moved-since cl e q h m legal among =
+pub moved-since : (cl : Cluster) (h : List Event) → OnlyLiveMove cl h
+moved-since cl h e q legal m among =
     elim (moved-live cl e (q ++ h) legal m among) [
       | inr new ↦ inr (IsAmong-append_left m (sent_by e) (flat_map sent_by q) new)
       | inl live ↦ elim (live-since cl q h legal.1 m live) [

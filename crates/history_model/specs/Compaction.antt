@@ -1,6 +1,7 @@
 -- Compaction: a collector may forget actors that it stopped. They are gone, and its sweeps leave them out; counts, edges and
 -- owners are those of all that is folded. Where whoever is gone was dead before, the verdicts are those of a sweep of all.
-use Rattle.std.specs.Prelude.{ℕ, ◌≡◌, ◌<◌, ◌≤◌, ◌==◌, Bool, true, false, ◌&&◌, ◌||◌, not, List, ◌++◌, length, map, slice_index}
+use Rattle.std.specs.Prelude.{ℕ, ◌≡◌, ◌<◌, ◌≤◌, ◌==◌, Bool, true, false, ◌&&◌, ◌||◌, not, List}
+use Rattle.std.specs.Prelude.{◌++◌, length, map, slice_index}
 use Rattle.std.specs.List.{filter}
 use Rattle.crgc_ids.specs.Actor.{Actor}
 use Rattle.crgc_ids.specs.Members.{IsAmong}

@@ -1,5 +1,5 @@
 -- Balance, edges and the dead of a fold. `lost` tells the nodes that are taken as lost; what they told does not
--- count, and what others admitted from them counts in its place.
+-- count, and what others admitted from them counts in its place. `out` tells the actors that a sweep leaves out.
 use Rattle.std.specs.Prelude.{ℕ, ◌+◌, ◌==◌, Bool, true, ◌&&◌, ◌||◌, not, if◌then◌else◌, nat_lt, List, [], ◌∷◌, ◌++◌, Option, Some, None, unwrap_or, flat_map}
 use Rattle.std.specs.List.{list_any, list_all, filter}
 use Rattle.crgc_ids.specs.Actor.{Actor, is_actor_below}

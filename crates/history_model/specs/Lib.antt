@@ -16,3 +16,7 @@ pub mod Reached
 pub mod Compaction
 pub mod Story
 pub mod Rows
+pub mod Ledgers
+pub mod Tells
+pub mod MoreFolded
+pub mod Live

@@ -2,8 +2,9 @@
 use Rattle.std.specs.Prelude.{ℕ, ◌≡◌, ◌<◌, ◌⊎◌, IsTrue, IsFalse, List, [], ◌∷◌, length, ◌≢◌}
 use Rattle.crgc_ids.specs.Actor.{Actor}
 use Rattle.history_model.specs.declared.events.Event.{Event}
+use Rattle.history_model.specs.Tally.{tally}
 use Rattle.history_model.specs.Cluster.{Cluster, is_born}
-use Rattle.history_model.specs.Messages.{Message, sent, message_at, waiting, was_admitted, copies, is_closed}
+use Rattle.history_model.specs.Messages.{Message, sent, message_at, waiting, was_admitted, copies, is_closed, is_lose}
 use Rattle.history_model.specs.Held.{held}
 use Rattle.history_model.specs.State.{is_busy, is_root, is_up}
 use Rattle.history_model.specs.Streams.{can_flush, queue, stream}
@@ -36,11 +37,21 @@ pub record IsQuietSet (cl : Cluster) (h : List Event) (q : List Actor) : Type 0 
 abbrev pub IsQuiescent : Cluster → List Event → Actor → Type 0
 IsQuiescent cl h a = (q : List Actor) × IsAmong a q × IsQuietSet cl h q
 
+-- each message sent between two different nodes that are up is admitted, or a copy of it is on the link
+abbrev pub IsDelivered : List Event → Type 0
+IsDelivered h =
+    (s d k : ℕ) → s ≢ d → IsTrue (is_up s h) → IsTrue (is_up d h) → k < length (sent s d h)
+    → IsTrue (was_admitted s d k h) ⊎ (0 < copies s d k h)
+
+-- no copy was lost between two different nodes that are up
+abbrev pub LosesNothing : List Event → Type 0
+LosesNothing h = (s d k : ℕ) → s ≢ d → IsTrue (is_up s h) → IsTrue (is_up d h) → tally (is_lose s d k) h ≡ 0
+
 -- nothing is left to tell at node m
 pub record IsQuietPoint (cl : Cluster) (m : ℕ) (h : List Event) : Type 0 where
   pub up : IsTrue (is_up m h)
-  pub removed : (n k : ℕ) → n < cl.nodes → k < cl.nodes → IsFalse (is_up n h) → IsTrue (is_up k h) → IsTrue (is_closed n k h)
+  pub closed : (n k : ℕ) → n < cl.nodes → k < cl.nodes → IsFalse (is_up n h) → IsTrue (is_up k h) → IsTrue (is_closed n k h)
   pub flushed : (a : Actor) → IsTrue (is_born a h) → IsTrue (is_up a.node h) → IsFalse (can_flush cl a h)
   pub published : (n : ℕ) → IsTrue (is_up n h) → queue cl n h ≡ []
   pub folded : (n : ℕ) → n < cl.nodes → IsTrue (is_up n h) → cut_at cl m h n ≡ length (stream cl n h)
-  pub delivered : (s d k : ℕ) → s ≢ d → IsTrue (is_up s h) → IsTrue (is_up d h) → k < length (sent s d h) → IsTrue (was_admitted s d k h) ⊎ (0 < copies s d k h)
+  pub delivered : IsDelivered h

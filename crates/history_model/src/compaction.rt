@@ -58,9 +58,12 @@ pub fn a_sweep_may_leave_out_the_gone()
         → IsCompactedVerdict cl m gone stopped f v ↔ IsCompactedVerdict cl m nobody stopped f v }
 {}
 
-/// Whom a collector stopped may be gone, at each step that it makes: at first it stopped nobody; as it folds more, it stays
-/// so; whom a sweep finds that leaves out the gone may be gone too; and of these it may forget whom it likes.
+/// Whoever was dead in some fold within this one may be gone. So may those be whom a collector stopped, at each step that
+/// it makes: at first it stopped nobody; as it folds more, it stays so; whom a sweep finds that leaves out the gone may be
+/// gone too; and of these it may forget whom it likes.
 pub fn the_stopped_may_be_gone()
+    ensures once_dead { (cl : Cluster) (gone : Actor → Bool) (f : Fold)
+        → ((a : Actor) → gone a ≡ true → (g : Fold) × IsWithin g f × IsAmong a (dead_of cl g)) → AreRightlyGone cl gone f }
     ensures first { (cl : Cluster) (f : Fold) → AreRightlyGone cl nobody f }
     ensures take { (cl : Cluster) (stopped : Actor → Bool) (g f : Fold) → IsWithin g f → AreRightlyGone cl stopped g
         → AreRightlyGone cl stopped f }

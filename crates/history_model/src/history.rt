@@ -1,5 +1,5 @@
 //! The history of a cluster as a value.
-ghost use Rattle.std.specs.Prelude.{◌≡◌, ◌+◌, ◌-◌, ◌<◌, ◌≤◌, [], ◌∷◌, length, reverse, slice_get, OnOk, OnErr};
+ghost use Rattle.std.specs.Prelude.{◌≡◌, ◌+◌, ◌-◌, ◌<◌, ◌≤◌, [], ◌∷◌, drop, length, reverse, slice_get, OnOk, OnErr};
 ghost use Rattle.std.specs.Option.{option_copied};
 
 use crate::events::Event;
@@ -55,6 +55,16 @@ impl History {
             Ok(()) => Ok(()),
             Err(_) => Err(NoMemory),
         }
+    }
+
+    /// Takes the last event back; None exactly where there is none. So who pushes an event first can undo it where a later
+    /// step finds no memory. Constant time.
+    pub fn take_back(&mut self) -> Option<Event>
+        ensures cluster { self.new.cluster ≡ self.old.cluster }
+        ensures last { result ≡ slice_get self.old.past 0 }
+        ensures past { self.new.past ≡ drop 1 self.old.past }
+    {
+        self.events.pop()
     }
 
     /// How many events it has.

@@ -1,10 +1,12 @@
 //! What is true of a history of cluster events: the plain types, and the definitions that every other crate cites.
 #![tactic(auto)]
 
+pub mod bulletin_laws;
 pub mod compaction;
 mod events;
 mod history;
 pub mod laws;
+pub mod live_laws;
 mod records;
 
 pub use events::{Event, Rule};

@@ -13,11 +13,10 @@ use Rattle.crgc_ids.specs.Members.{IsAmong, IsPart}
 use Rattle.crgc_ids.specs.declared.rising.ActorCount.{ActorCount}
 use Rattle.crgc_ids.specs.declared.rising.PairCount.{PairCount}
 use Rattle.crgc_ids.proofs.ActorLaws.{same_actor-decides}
-use Rattle.crgc_ids.proofs.MembersLaws.{IsAmong-append_cases, IsAmong-append_left, IsAmong-append_right}
+use Rattle.crgc_ids.proofs.MembersLaws.{IsAmong-append_cases, IsAmong-append_left, IsAmong-append_right, all-implied}
 use Rattle.history_model.specs.Graph.{rising_actors}
 use Rattle.history_model.proofs.RisingActors.{among-decides, length-rising_more}
 use Rattle.row_sums.specs.Totals.{actor_total, pair_total}
-use Rattle.row_sums.proofs.SumLemmas.{all-implied}
 use Rattle.ingress_gateway.specs.Keeping.{IsKept}
 use Rattle.ingress_gateway.specs.NameSet.{HasSameNames, NameSet, has_name}
 use Rattle.ingress_gateway.specs.Pending.{carried_count, message_count, pairs, recipients}

@@ -1,13 +1,7 @@
 -- What an insertion into a set of actors says of its names.
-use Rattle.std.proofs.Common.{◌≡◌, ◌||◌, Bool, true, false, cond, Result, Ok, Err, refl, ◌∙◌, ap}
-use Rattle.std.specs.Result.{IsOk, OnOk}
+use Rattle.std.proofs.Common.{◌≡◌, ◌||◌, Bool, true, false, cond, refl, ◌∙◌, ap}
 use Rattle.crgc_ids.specs.Actor.{Actor, same_actor}
 use Rattle.history_model.proofs.Basics.{same_actor-sym}
-
--- what is so at a success, where nothing can fail
-pub on_ok : {A E : Type 0} (P : Type 0) (r : Result A E) → IsOk r → OnOk r P → P
-on_ok P (Ok x) ok p = p
-on_ok P (Err e) ok p = absurd cc
 
 cond_or : (b c : Bool) → cond b true c ≡ (b || c)
 cond_or true c = refl

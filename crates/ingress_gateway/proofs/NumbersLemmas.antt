@@ -1,5 +1,5 @@
 -- Runs of numbers in a map, and the numbers in them.
-use Rattle.std.proofs.Common.{◌≡◌, ◌⊎◌, ◌↔◌, ◌==◌, ◌+◌, ◌<◌, ◌≤◌, ◌&&◌, ◌||◌, ℕ, Bool, true, false, cond, get_or, leb, ltb, Option, Some, None, Result, Ok, Err, OnOk, refl, sym, ◌∙◌, ap, subst, inl, inr, arith}
+use Rattle.std.proofs.Common.{◌≡◌, ◌⊎◌, ◌↔◌, ◌==◌, ◌+◌, ◌<◌, ◌≤◌, ◌&&◌, ◌||◌, ℕ, Bool, true, false, cond, get_or, leb, ltb, Option, Some, None, refl, sym, ◌∙◌, ap, subst, inl, inr, arith}
 use Rattle.std.proofs.lemmas.Bool.{cases_lt, false≢true, ne_eqb}
 use Rattle.std.proofs.lemmas.Bool.Decides.{Decides-and, Decides-by_or, Decides-eqb, Decides-like, Decides-ltb, Decides-or, nat_tests, same_from_decides}
 use Rattle.std.proofs.lemmas.Cmp.{nat_cmp_total}
@@ -10,7 +10,6 @@ use Rattle.std.specs.BTreeMap.{BTreeMap, IsOrdered, get, is_at}
 use Rattle.std.specs.Bool.{Decides}
 use Rattle.std.specs.List.{Contains, list_any}
 use Rattle.std.specs.Ordering.{is_gt, is_lt, nat_cmp}
-use Rattle.std.specs.Result.{is_err}
 use Rattle.ingress_gateway.specs.Numbered.{has_number}
 use Rattle.ingress_gateway.specs.Runs.{AreApart, BeginLater, HasRun, IsEndWith, IsFirstWith, IsLastRun}
 
@@ -25,10 +24,6 @@ at_least m n h = grind (arith, nat_tests)
 
 leb-decides : (m n : ℕ) → Decides (leb m n) (m ≤ n)
 leb-decides m n = (λ t. grind (arith, nat_tests), λ h. grind (arith, nat_tests))
-
-pub from_no_error : {A E : Type 0} (P : Type 0) (r : Result A E) → is_err r ≡ false → OnOk r P → P
-from_no_error P (Ok x) fails p = p
-from_no_error P (Err e) fails p = absurd (false≢true (sym fails))
 
 some-same : {o : Option ℕ} {x y : ℕ} → o ≡ Some x → o ≡ Some y → x ≡ y
 some-same e f = cc

@@ -1,6 +1,5 @@
 -- Rows that count what was admitted name the same actors.
-use Rattle.std.proofs.Common.{◌≡◌, ◌<◌, ◌&&◌, ℕ, Bool, true, false, cond, List, [], ◌∷◌, length, map, refl, sym, ap, subst, inl, inr, arith}
-use Rattle.std.proofs.lemmas.Bool.Decides.{Decides-and, Decides-like}
+use Rattle.std.proofs.Common.{◌≡◌, ◌<◌, ℕ, Bool, true, false, cond, List, [], ◌∷◌, length, map, refl, sym, ap, subst, inl, inr, arith}
 use Rattle.std.proofs.lemmas.List.Sums.{sum_by-cons}
 use Rattle.std.specs.Bool.{Decides}
 use Rattle.std.specs.List.{AllByRecursion, count_by, flat_map, sum_by}
@@ -15,6 +14,7 @@ use Rattle.history_model.proofs.Lists.{IsAmong-flat_map, IsAmong-from_flat_map}
 use Rattle.history_model.proofs.RisingActors.{rising_actors-same}
 use Rattle.row_sums.specs.Totals.{actor_total, pair_total}
 use Rattle.ingress_gateway.specs.Pending.{carried_count, message_count, named_count, names_in, pairs, recipients}
+use Rattle.crgc_ids.proofs.KeyOrders.{pair_order, same_pair}
 
 module _ {X K : Type 0} (key : X → K) (count : X → ℕ) (same : K → K → Bool) (told : (j k : K) → Decides (same j k) (j ≡ k)) where
   -- a key of rows is counted, and what is counted is a key of rows
@@ -77,12 +77,10 @@ named-same rows pair_rows messages carried stand pairs_stand totals pair_totals 
     let often : ActorCount → ℕ = λ r. r.count in
     let ends : PairCount → Actor × Actor = λ r. (r.owner, r.target) in
     let pairs_often : PairCount → ℕ = λ r. r.count in
-    let same : Actor × Actor → Actor × Actor → Bool = λ p q. same_actor p.0 q.0 && same_actor p.1 q.1 in
-    let told : (p q : Actor × Actor) → Decides (same p q) (p ≡ q) = λ p q. Decides-like (same p q) (λ h. (λ i. (h.0 i, h.1 i))) (λ e. (ap (λ x. x.0) e, ap (λ x. x.1) e)) (Decides-and (same_actor p.0 q.0) (same_actor p.1 q.1) (same_actor-decides p.0 q.0) (same_actor-decides p.1 q.1)) in
     let there = names-part (recipients rows) messages (pairs pair_rows) carried
     (keys-there actor often same_actor same_actor-decides rows messages totals stand)
-    (keys-there ends pairs_often same told pair_rows carried (λ p. pair_totals p.0 p.1) pairs_stand) in
+    (keys-there ends pairs_often same_pair pair_order.told pair_rows carried (λ p. pair_totals p.0 p.1) pairs_stand) in
     let back = names-part messages (recipients rows) carried (pairs pair_rows)
     (keys-back actor often same_actor same_actor-decides rows messages totals)
-    (keys-back ends pairs_often same told pair_rows carried (λ p. pair_totals p.0 p.1)) in
+    (keys-back ends pairs_often same_pair pair_order.told pair_rows carried (λ p. pair_totals p.0 p.1)) in
     ap length (rising_actors-same (names_in (recipients rows) (pairs pair_rows)) (names_in messages carried) there back)

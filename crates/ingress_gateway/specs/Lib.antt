@@ -5,3 +5,4 @@ pub mod NameSet
 pub mod Numbered
 pub mod Pending
 pub mod Runs
+pub mod Told

@@ -3,6 +3,7 @@
 
 mod backlog;
 mod ingress;
+pub mod laws;
 mod names;
 mod numbers;
 

@@ -2,3 +2,4 @@ pub mod Limits
 pub mod Lines
 pub mod Report
 pub mod ReportExamples
+pub mod LimitExamples

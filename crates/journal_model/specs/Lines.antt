@@ -1,7 +1,7 @@
 -- The spelling of lines: words joined by single spaces.
 use Rattle.std.specs.Prelude.{ℕ, ◌<◌, ◌≤◌, ◌^◌, ◌==◌, List, [], ◌∷◌, ◌++◌, length, map, decimal, codes, flat_map}
 use Rattle.std.specs.List.{join_with_byte, slice_split}
-use Rattle.crgc_ids.specs.Actor.{Actor}
+use Rattle.crgc_ids.specs.Actor.{Actor, IsActor}
 use Rattle.history_model.specs.declared.events.Event.{Event}
 use Rattle.history_model.specs.declared.events.Event.TheVariants.{Seed, Tie, Wake, Take, Spawn, Send, Drop, Retire, Rest, Flush, Publish, Window, Admit, Lose, Repeat, Crash, Remove, Hand, Sweep}
 use Rattle.history_model.specs.declared.records.Stop.{Stop}
@@ -63,38 +63,35 @@ end_words events stopped =
 abbrev pub IsNodeNumber : ℕ → Type 0
 IsNodeNumber n = n < 16
 
-abbrev pub IsActorName : Actor → Type 0
-IsActorName a = (a.node < 16) × (a.serial < 262144)
-
-abbrev pub AreActorNames : List Actor → Type 0
-AreActorNames [] = Unit {0}
-AreActorNames (a ∷ as_) = IsActorName a × AreActorNames as_
+abbrev pub AreActors : List Actor → Type 0
+AreActors [] = Unit {0}
+AreActors (a ∷ as_) = IsActor a × AreActors as_
 
 -- the numbers of the event are in their ranges, and a message carries at most 16 references
-abbrev pub IsSpellable : Event → Type 0
-IsSpellable (Seed n) = IsNodeNumber n
-IsSpellable (Tie a b) = IsActorName a × IsActorName b
-IsSpellable (Wake a) = IsActorName a
-IsSpellable (Take a) = IsActorName a
-IsSpellable (Spawn a) = IsActorName a
-IsSpellable (Send a b refs) = IsActorName a × IsActorName b × AreActorNames refs × (length refs ≤ 16)
-IsSpellable (Drop a b) = IsActorName a × IsActorName b
-IsSpellable (Retire a) = IsActorName a
-IsSpellable (Rest a) = IsActorName a
-IsSpellable (Flush a) = IsActorName a
-IsSpellable (Publish n) = IsNodeNumber n
-IsSpellable (Window d s) = IsNodeNumber d × IsNodeNumber s
-IsSpellable (Admit s d k) = IsNodeNumber s × IsNodeNumber d × (k < 2 ^ 32)
-IsSpellable (Lose s d k) = IsNodeNumber s × IsNodeNumber d × (k < 2 ^ 32)
-IsSpellable (Repeat s d k) = IsNodeNumber s × IsNodeNumber d × (k < 2 ^ 32)
-IsSpellable (Crash n) = IsNodeNumber n
-IsSpellable (Remove m n) = IsNodeNumber m × IsNodeNumber n
-IsSpellable (Hand m o k) = IsNodeNumber m × IsNodeNumber o × (k < 2 ^ 32)
-IsSpellable (Sweep n) = IsNodeNumber n
+abbrev pub IsWithinRanges : Event → Type 0
+IsWithinRanges (Seed n) = IsNodeNumber n
+IsWithinRanges (Tie a b) = IsActor a × IsActor b
+IsWithinRanges (Wake a) = IsActor a
+IsWithinRanges (Take a) = IsActor a
+IsWithinRanges (Spawn a) = IsActor a
+IsWithinRanges (Send a b refs) = IsActor a × IsActor b × AreActors refs × (length refs ≤ 16)
+IsWithinRanges (Drop a b) = IsActor a × IsActor b
+IsWithinRanges (Retire a) = IsActor a
+IsWithinRanges (Rest a) = IsActor a
+IsWithinRanges (Flush a) = IsActor a
+IsWithinRanges (Publish n) = IsNodeNumber n
+IsWithinRanges (Window d s) = IsNodeNumber d × IsNodeNumber s
+IsWithinRanges (Admit s d k) = IsNodeNumber s × IsNodeNumber d × (k < 2 ^ 32)
+IsWithinRanges (Lose s d k) = IsNodeNumber s × IsNodeNumber d × (k < 2 ^ 32)
+IsWithinRanges (Repeat s d k) = IsNodeNumber s × IsNodeNumber d × (k < 2 ^ 32)
+IsWithinRanges (Crash n) = IsNodeNumber n
+IsWithinRanges (Remove m n) = IsNodeNumber m × IsNodeNumber n
+IsWithinRanges (Hand m o k) = IsNodeNumber m × IsNodeNumber o × (k < 2 ^ 32)
+IsWithinRanges (Sweep n) = IsNodeNumber n
 
-abbrev pub AreSpellable : List Event → Type 0
-AreSpellable [] = Unit {0}
-AreSpellable (e ∷ p) = IsSpellable e × AreSpellable p
+abbrev pub AreWithinRanges : List Event → Type 0
+AreWithinRanges [] = Unit {0}
+AreWithinRanges (e ∷ p) = IsWithinRanges e × AreWithinRanges p
 
 -- the lines of a text: the pieces between line feeds, where an empty last piece is no line
 abbrev pub without_empty_end : List (List ℕ) → List (List ℕ)

@@ -1,5 +1,5 @@
 -- The report of a dropped child in full and in brief, and the report of no events, computed.
-use Rattle.std.specs.Prelude.{◌≡◌, List, [], ◌∷◌, refl, length, codes}
+use Rattle.std.specs.Prelude.{◌≡◌, [], ◌∷◌, refl, length, codes}
 use Rattle.std.specs.Fmt.{digits}
 use Rattle.crgc_ids.specs.Greatest.{greatest}
 use Rattle.crgc_ids.specs.LostNodes.{lost_nodes}

@@ -5,7 +5,7 @@ use Rattle.std.specs.Map.{lookup, set_value}
 use Rattle.std.specs.Option.{unwrap_or}
 use Rattle.crgc_ids.proofs.ActorMaps.{lookup-tie, tie, tie-apart}
 use Rattle.crgc_ids.specs.Actor.{Actor}
-use Rattle.mailboxes.specs.Mail.{ChangesOnly, Mailbox, mailbox_of}
+use Rattle.mailboxes.specs.Mail.{IsMailboxChange, Mailbox, mailbox_of}
 
 -- an empty mailbox, if the map has none
 abbrev box : Option Mailbox → Mailbox
@@ -15,8 +15,8 @@ mailbox_of-tie : (a : Actor) (boxes : List (Actor × Mailbox)) → mailbox_of bo
 mailbox_of-tie a boxes = sym (ap box (lookup-tie a boxes))
 
 -- a map that changed at one actor changed that mailbox alone
-pub changes_only : (old new : List (Actor × Mailbox)) (actor : Actor) (written is : Mailbox) → lookup (tie actor) new ≡ Some written → ((a : Actor) → tie actor a ≡ false → lookup (tie a) new ≡ lookup (tie a) old) → written ≡ is → ChangesOnly old new actor is.mail is.room
-changes_only old new actor written is here there same =
+pub mailbox_change : (old new : List (Actor × Mailbox)) (actor : Actor) (written is : Mailbox) → lookup (tie actor) new ≡ Some written → ((a : Actor) → tie actor a ≡ false → lookup (tie a) new ≡ lookup (tie a) old) → written ≡ is → IsMailboxChange old new actor is.mail is.room
+mailbox_change old new actor written is here there same =
     let now = mailbox_of-tie actor new ∙ ap box here ∙ same in
     record {
       mail = ap (λ b. b.mail) now;

@@ -21,7 +21,7 @@ abbrev pub room_of : List (Actor × Mailbox) → Actor → ℕ
 room_of boxes actor = (mailbox_of boxes actor).room
 
 -- the actor has these messages and this room now, and each other actor what it had
-pub record ChangesOnly (old new : List (Actor × Mailbox)) (actor : Actor) (messages : List (List Actor)) (count : ℕ) : Type 0 where
+pub record IsMailboxChange (old new : List (Actor × Mailbox)) (actor : Actor) (messages : List (List Actor)) (count : ℕ) : Type 0 where
   pub mail : mail_of new actor ≡ messages
   pub room : room_of new actor ≡ count
   pub others : (a : Actor) → a ≢ actor → (mail_of new a ≡ mail_of old a) × (room_of new a ≡ room_of old a)

@@ -1,7 +1,7 @@
 //! A queue of messages for each actor.
 ghost use Rattle.std.specs.Prelude.{◌≡◌, ◌+◌, ◌-◌, [], ◌∷◌, ◌++◌, OnOk, OnErr, drop, length, slice_get};
 ghost use Rattle.std.specs.Option.{option_copied};
-ghost use Rattle.mailboxes.specs.Mail.{ChangesOnly, mail_of, room_of};
+ghost use Rattle.mailboxes.specs.Mail.{IsMailboxChange, mail_of, room_of};
 
 use crate::queue::Queue;
 use crgc_ids::{ActorId, NoMemory, RefList};
@@ -42,7 +42,7 @@ impl Mailboxes {
     /// it takes some of that, and never answers `NoMemory`; after `NoMemory` all is as before. Logarithmic time in the
     /// number of actors, amortized.
     pub fn put(&mut self, to: ActorId, refs: RefList) -> Result<(), NoMemory>
-        ensures ok { OnOk result (ChangesOnly self.old self.new to (mail_of self.old to ++ refs ∷ []) (room_of self.old to - 1)) }
+        ensures ok { OnOk result (IsMailboxChange self.old self.new to (mail_of self.old to ++ refs ∷ []) (room_of self.old to - 1)) }
         ensures err { OnErr result (self.new ≡ self.old) }
         ensures full { OnErr result (room_of self.old to ≡ 0) }
     {
@@ -59,7 +59,7 @@ impl Mailboxes {
     /// Room for one more message to the actor is reserved; the messages are as before. After `NoMemory` all is as
     /// before. Logarithmic time in the number of actors, amortized.
     pub fn reserve(&mut self, to: ActorId) -> Result<(), NoMemory>
-        ensures ok { OnOk result (ChangesOnly self.old self.new to (mail_of self.old to) (room_of self.old to + 1)) }
+        ensures ok { OnOk result (IsMailboxChange self.old self.new to (mail_of self.old to) (room_of self.old to + 1)) }
         ensures err { OnErr result (self.new ≡ self.old) }
     {
         if let Some(queue) = self.queues.get_mut(&to) {
@@ -83,7 +83,7 @@ impl Mailboxes {
     /// Logarithmic time in the number of actors.
     pub fn pop(&mut self, actor: ActorId) -> Option<RefList>
         ensures first { result ≡ slice_get (mail_of self.old actor) 0 }
-        ensures rest { ChangesOnly self.old self.new actor (drop 1 (mail_of self.old actor)) (room_of self.old actor) }
+        ensures rest { IsMailboxChange self.old self.new actor (drop 1 (mail_of self.old actor)) (room_of self.old actor) }
     {
         self.queues.get_mut(&actor)?.pop()
     }
@@ -100,7 +100,7 @@ impl Mailboxes {
 
     /// The actor has this queue.
     fn open(&mut self, actor: ActorId, queue: Queue) -> Result<(), NoMemory>
-        ensures ok { OnOk result (ChangesOnly self.old self.new actor queue.mail queue.room) }
+        ensures ok { OnOk result (IsMailboxChange self.old self.new actor queue.mail queue.room) }
         ensures err { OnErr result (self.new ≡ self.old) }
     {
         match self.queues.insert(actor, queue) {

@@ -1,9 +1,9 @@
 -- Sets of nodes that are made or tested one node after another.
 use Rattle.std.proofs.Common.{◌≡◌, ◌<◌, ◌+◌, ◌&&◌, ℕ, zero, suc, Bool, true, false, cond, List, [], ◌∷◌, ◌++◌, refl, sym, ◌∙◌, ap, subst, inl, inr, arith, add-one, zero-add}
-use Rattle.std.proofs.lemmas.Bool.{and_parts, cases_lt, false≢true, le-ltb, ne_eqb}
+use Rattle.std.proofs.lemmas.Bool.{and_parts, cases_lt, false≢true, le-ltb, ne_eqb, false_from_ne_true}
 use Rattle.std.proofs.lemmas.List.{append-nil}
 use Rattle.std.specs.List.{AllByRecursion, filter, list_all, range_with_len}
-use Rattle.crgc_ids.proofs.MembersLaws.{IsAmong-filter, IsAmong-from_filter, IsAmong-from_range, IsAmong-range, all-member, list_all-members, list_all-true}
+use Rattle.crgc_ids.proofs.MembersLaws.{IsAmong-filter, IsAmong-from_filter, IsAmong-from_range, IsAmong-range, all-member, list_all-members, list_all-true, all-from_members}
 use Rattle.crgc_ids.proofs.NodesLaws.{has_node-from_true, has_node-member}
 use Rattle.crgc_ids.proofs.RisingLaws.{IsRising-filter, IsRising-range, rising_nodes-same}
 use Rattle.crgc_ids.specs.Members.{IsAmong}
@@ -29,15 +29,12 @@ filter-range_more p a (suc n) =
       | false ↦ later
     ])
 
-all_filter : (P : ℕ → Type 0) (p : ℕ → Bool) (xs : List ℕ) → ((x : ℕ) → IsAmong x xs → P x) → AllByRecursion P (filter p xs)
-all_filter P p [] h = tt
-all_filter P p (x ∷ xs) h =
-    let rest = all_filter P p xs (λ y m. h y (inr m)) in
-    elim (p x) as (λ b. AllByRecursion P (cond b (x ∷ filter p xs) (filter p xs))) [ true ↦ (h x (inl refl), rest) | false ↦ rest ]
-
 -- the nodes below n that pass are below n
 pub filter-below : (p : ℕ → Bool) (n : ℕ) → AllByRecursion (λ x. x < n) (filter p (nodes_below n))
-filter-below p n = all_filter (λ x. x < n) p (nodes_below n) (λ x m. let range = IsAmong-from_range x 0 n m in omega arith)
+filter-below p n =
+    all-from_members (λ x. x < n) (filter p (nodes_below n)) (λ x m.
+    let range = IsAmong-from_range x 0 n (IsAmong-from_filter p x (nodes_below n) m).0 in
+    omega arith)
 
 filter_more : (p : ℕ → Bool) (n : ℕ) → filter p (nodes_below (n + 1)) ≡ filter p (nodes_below n) ++ cond (p n) (n ∷ []) []
 filter_more p n =
@@ -67,12 +64,8 @@ all_more p n all passes =
 -- one node below n that does not pass
 pub all_fails : (p : ℕ → Bool) (n k : ℕ) → k < n → p k ≡ false → list_all p (nodes_below n) ≡ false
 all_fails p n k below fails =
-    let Told : Bool → Type 0 = λ b. list_all p (nodes_below n) ≡ b → b ≡ false in
-    let told : Told (list_all p (nodes_below n)) = elim (list_all p (nodes_below n)) as Told [
-      | true ↦ λ e. absurd (false≢true (sym fails ∙ list_all-true p k (nodes_below n) e (IsAmong-range k 0 n (omega arith) (omega arith))))
-      | false ↦ λ _. refl
-    ] in
-    told refl
+    false_from_ne_true (list_all p (nodes_below n)) (λ all.
+    false≢true (sym fails ∙ list_all-true p k (nodes_below n) all (IsAmong-range k 0 n (omega arith) (omega arith))))
 
 -- to try all nodes below n for being members that pass is to try the members
 pub filter-members : (n : ℕ) (p : ℕ → Bool) (xs : List ℕ) → IsRising ◌<◌ xs → AllByRecursion (λ x. x < n) xs → filter (λ s. has_node xs s && p s) (nodes_below n) ≡ filter p xs
@@ -90,9 +83,4 @@ filter-members n p xs rising below =
 -- a test of members that fails says that the node is none
 pub has_node-apart : (xs : List ℕ) (k : ℕ) {r : Bool} → (IsAmong k xs → r ≡ true) → r ≡ false → has_node xs k ≡ false
 has_node-apart xs k tells fails =
-    let Told : Bool → Type 0 = λ b. has_node xs k ≡ b → b ≡ false in
-    let told : Told (has_node xs k) = elim (has_node xs k) as Told [
-      | true ↦ λ e. absurd (false≢true (sym fails ∙ tells (has_node-from_true xs k e)))
-      | false ↦ λ _. refl
-    ] in
-    told refl
+    false_from_ne_true (has_node xs k) (λ member. false≢true (sym fails ∙ tells (has_node-from_true xs k member)))

@@ -8,20 +8,16 @@ use Rattle.history_model.specs.Cluster.{Cluster, same_actor, newborn}
 use Rattle.history_model.specs.Facts.{created, note_by, notes}
 use Rattle.history_model.specs.Held.{is_note_of}
 use Rattle.history_model.specs.Tally.{tally}
-
--- the first item counts, or not
-tally_first : {X : Type 0} (test : X → Bool) (x : X) (xs : List X) → tally test (x ∷ xs) ≡ cond (test x) 1 0 + tally test xs
-tally_first test x xs =
-    elim (test x) as (λ v. cond v (tally test xs + 1) (tally test xs) ≡ cond v 1 0 + tally test xs) [ true ↦ omega arith | false ↦ omega arith ]
+use Rattle.history_model.proofs.Lists.{tally-one}
 
 tally_last : {X : Type 0} (test : X → Bool) (s : Bool) (x : X) → tally test (cond s (x ∷ []) []) ≡ cond (s && test x) 1 0
-tally_last test true x = let first = tally_first test x [] in omega arith
+tally_last test true x = let first = tally-one test x [] in omega arith
 tally_last test false x = refl
 
 tally_three : {X : Type 0} (test : X → Bool) (x y z : X) (s : Bool) → tally test (x ∷ y ∷ cond s (z ∷ []) []) ≡ (cond (test x) 1 0 + cond (test y) 1 0) + cond (s && test z) 1 0
 tally_three test x y z s =
-    let first = tally_first test x (y ∷ cond s (z ∷ []) []) in
-    let second = tally_first test y (cond s (z ∷ []) []) in
+    let first = tally-one test x (y ∷ cond s (z ∷ []) []) in
+    let second = tally-one test y (cond s (z ∷ []) []) in
     let third = tally_last test s z in
     omega arith
 

@@ -1,18 +1,15 @@
 -- When nothing is left to take away.
-use Rattle.std.proofs.Common.{◌≡◌, ◌<◌, ◌-◌, ◌⊎◌, ℕ, zero, suc, Bool, List, length, refl, sym, ◌∙◌, ap, inl, inr, arith}
+use Rattle.std.proofs.Common.{◌≡◌, ◌<◌, ◌-◌, ◌⊎◌, ℕ, zero, suc, Bool, List, length, sym, ◌∙◌, ap, inl, inr, arith}
 use Rattle.std.specs.List.{filter}
 use Rattle.crgc_ids.specs.Greatest.{prune}
+use Rattle.crgc_ids.proofs.GreatestLaws.{prune-fixed}
 use Rattle.crgc_ids.proofs.MembersLaws.{filter_shortens}
 
 module _ {A : Type 0} (fit : List A → A → Bool) where
-  prune_fixed : (n : ℕ) (xs : List A) → filter (fit xs) xs ≡ xs → prune fit n xs ≡ xs
-  prune_fixed zero xs e = refl
-  prune_fixed (suc n) xs e = ap (prune fit n) e ∙ prune_fixed n xs e
-
   -- a turn that leaves as many members as before is the last
   prune_stops : (n : ℕ) (xs : List A) → length (filter (fit xs) xs) ≡ length xs → prune fit (suc n) xs ≡ filter (fit xs) xs
   prune_stops n xs same = elim (filter_shortens (fit xs) xs) [
-    | inl e ↦ prune_fixed (suc n) xs e ∙ sym e
+    | inl e ↦ prune-fixed fit (suc n) xs e ∙ sym e
     | inr l ↦ absurd (omega arith)
   ]
 

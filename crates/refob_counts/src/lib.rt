@@ -2,7 +2,7 @@
 #![tactic(auto)]
 
 ghost use Rattle.std.specs.Prelude.{◌≡◌, ◌+◌, ◌-◌, ◌<◌, ◌^◌, [], OnOk, OnErr};
-ghost use Rattle.refob_counts.specs.Counts.{ChangesOnly, count_of};
+ghost use Rattle.refob_counts.specs.Counts.{IsCountChange, count_of};
 
 use crgc_ids::{ActorId, NoMemory};
 use std::alloc::Global;
@@ -43,7 +43,7 @@ impl RefCounts {
     /// and all is then as before. Logarithmic time in the number of targets.
     pub fn add(&mut self, target: ActorId, count: u32) -> Result<(), NoMemory>
         requires { count_of self.old target + count < 2 ^ 32 }
-        ensures ok { OnOk result (ChangesOnly self.old self.new target (count_of self.old target + count)) }
+        ensures ok { OnOk result (IsCountChange self.old self.new target (count_of self.old target + count)) }
         ensures err { OnErr result (self.new ≡ self.old) }
         ensures absent { OnErr result (count_of self.old target ≡ 0) }
     {
@@ -57,7 +57,7 @@ impl RefCounts {
     /// One reference to the target is held less, and no other count changes. `NotHeld` exactly where none is held; then
     /// all is as before. Logarithmic time in the number of targets.
     pub fn release(&mut self, target: ActorId) -> Result<(), NotHeld>
-        ensures ok { OnOk result (ChangesOnly self.old self.new target (count_of self.old target - 1)) }
+        ensures ok { OnOk result (IsCountChange self.old self.new target (count_of self.old target - 1)) }
         ensures held { OnOk result (0 < count_of self.old target) }
         ensures err { OnErr result (self.new ≡ self.old) }
         ensures not_held { OnErr result (count_of self.old target ≡ 0) }

@@ -1,5 +1,5 @@
 -- Sorted rows, in which each row takes in the later ones of its key.
-use Rattle.std.proofs.Common.{◌≡◌, ◌⊎◌, ◌+◌, ◌<◌, ◌^◌, ℕ, suc, Bool, true, false, cond, List, [], ◌∷◌, get_or, refl, sym, ◌∙◌, ap, subst, inl, inr, arith}
+use Rattle.std.proofs.Common.{◌≡◌, ◌⊎◌, ◌+◌, ◌<◌, ℕ, suc, Bool, true, false, cond, List, [], ◌∷◌, get_or, refl, sym, ◌∙◌, ap, subst, inl, inr, arith}
 use Rattle.std.proofs.lemmas.Bool.{false≢true}
 use Rattle.std.proofs.lemmas.List.Elements.{All-from_recursion, recursion_from_All}
 use Rattle.std.proofs.lemmas.List.Sorted.{All-permutation, sum_by-IsPermutation}
@@ -9,11 +9,8 @@ use Rattle.std.specs.List.{AllByRecursion, sum_by}
 use Rattle.std.specs.List.Retain.{DedupsAll, DedupsFrom}
 use Rattle.std.specs.List.Sorted.{IsPermutation, IsSortedBy}
 use Rattle.crgc_ids.specs.Rising.{IsRising}
-
--- an order of keys, and the test of their sameness
-pub record IsKeyOrder {K : Type 0} (below : K → K → Type 0) (same : K → K → Bool) : Type 0 where
-  pub trans : (i j k : K) → below i j → below j k → below i k
-  pub told : (j k : K) → Decides (same j k) (j ≡ k)
+use Rattle.crgc_ids.proofs.MembersLaws.{all-implied}
+use Rattle.crgc_ids.proofs.KeyOrders.{IsKeyOrder}
 
 abbrev pub AtMost : {K : Type 0} → (K → K → Type 0) → K → K → Type 0
 AtMost below j k = (j ≡ k) ⊎ below j k
@@ -27,31 +24,24 @@ NeverFalls below key k (x ∷ xs) = AtMost below k (key x) × NeverFalls below k
 abbrev pub total : {K X : Type 0} → (K → K → Bool) → (X → K) → (X → ℕ) → K → List X → ℕ
 total same key count t rows = sum_by (λ r. cond (same t (key r)) (count r) 0) rows
 
--- what a row does with the next one: it takes in its count, where they have one key
-pub record TakesIn {K X : Type 0} (same : K → K → Bool) (key : X → K) (count : X → ℕ) (next last : X) (b : Bool) (next' last' : X) : Type 0 where
+-- what a row does with the next one: it takes in its count, where they have one key, and the sum is below the limit
+pub record TakesIn {K X : Type 0} (same : K → K → Bool) (key : X → K) (count : X → ℕ) (limit : ℕ) (next last : X) (b : Bool) (next' last' : X) : Type 0 where
   pub tells : b ≡ same (key last) (key next)
   pub passes : next' ≡ next
   pub stays : key last' ≡ key last
-  pub adds : b ≡ true → count last + count next < 2 ^ 32 → count last' ≡ count last + count next
+  pub adds : b ≡ true → count last + count next < limit → count last' ≡ count last + count next
   pub leaves : b ≡ false → last' ≡ last
 
 -- the rows ys are those of xs, added up, and their keys are not below k
 record AreSummed {K X : Type 0} (below : K → K → Type 0) (same : K → K → Bool) (key : X → K) (count : X → ℕ) (k : K) (xs ys : List X) : Type 0 where
   rise : IsRising (λ r s. below (key r) (key s)) ys
   from : AllByRecursion (λ y. AtMost below k (key y)) ys
-  stand : AllByRecursion (λ y. 0 < count y) ys
   totals : (t : K) → total same key count t ys ≡ total same key count t xs
 
 -- the rows ys are those of xs, added up
 pub record IsSum {K X : Type 0} (below : K → K → Type 0) (same : K → K → Bool) (key : X → K) (count : X → ℕ) (xs ys : List X) : Type 0 where
   pub rise : IsRising (λ r s. below (key r) (key s)) ys
-  pub stand : AllByRecursion (λ y. 0 < count y) ys
   pub totals : (t : K) → total same key count t ys ≡ total same key count t xs
-
--- what follows from what is so of each row is so of each
-pub all-implied : {X : Type 0} (P Q : X → Type 0) → ((x : X) → P x → Q x) → (xs : List X) → AllByRecursion P xs → AllByRecursion Q xs
-all-implied P Q implies [] all = tt
-all-implied P Q implies (x ∷ xs) all = (implies x all.0, all-implied P Q implies xs all.1)
 
 below-at_most : {K : Type 0} (below : K → K → Type 0) (trans : (i j k : K) → below i j → below j k → below i k) (i j k : K) → below i j → AtMost below j k → below i k
 below-at_most below trans i j k h (inl e) = subst (below i) e h
@@ -67,7 +57,7 @@ sorted-never_falls below key is_less order x (y ∷ ys) up =
     ) in
     (order x y (up 0 x (omega arith) (omega arith)), sorted-never_falls below key is_less order y ys later)
 
-module _ {K X : Type 0} (same : K → K → Bool) (key : X → K) (count : X → ℕ) (told : (j k : K) → Decides (same j k) (j ≡ k)) where
+module _ {K X : Type 0} (same : K → K → Bool) (key : X → K) (count : X → ℕ) (limit : ℕ) (told : (j k : K) → Decides (same j k) (j ≡ k)) where
   -- two rows of one key count it as often as their sum
   one_of_two : (t : K) (last next last' : X) → key last' ≡ key last → key last ≡ key next → count last' ≡ count last + count next → cond (same t (key last')) (count last') 0 ≡ cond (same t (key last)) (count last) 0 + cond (same t (key next)) (count next) 0
   one_of_two t last next last' stays one sum =
@@ -76,7 +66,7 @@ module _ {K X : Type 0} (same : K → K → Bool) (key : X → K) (count : X →
       subst (λ j. Split j (key next)) (sym stays) (subst (Split (key last)) one split)
 
   -- two rows of one key have room in one
-  room : (last next : X) (xs : List X) → key last ≡ key next → ((t : K) → total same key count t (last ∷ next ∷ xs) < 2 ^ 32) → count last + count next < 2 ^ 32
+  room : (last next : X) (xs : List X) → key last ≡ key next → ((t : K) → total same key count t (last ∷ next ∷ xs) < limit) → count last + count next < limit
   room last next xs one fits =
       let f : X → ℕ = λ r. cond (same (key last) (key r)) (count r) 0 in
       let own : f last ≡ count last = ap (λ v. cond v (count last) 0) ((told (key last) (key last)).1 refl) in
@@ -86,34 +76,32 @@ module _ {K X : Type 0} (same : K → K → Bool) (key : X → K) (count : X →
       let second = sum_by-cons f next xs in
       omega arith
 
-module _ {K X S : Type 0} (below : K → K → Type 0) (same : K → K → Bool) (key : X → K) (count : X → ℕ) (order : IsKeyOrder below same)
-    (step : S → X → X → Bool → S → X → X → Type 0) (takes : (s : S) (x k : X) (b : Bool) (t : S) (x' k' : X) → step s x k b t x' k' → TakesIn same key count x k b x' k')
+module _ {K X S : Type 0} (below : K → K → Type 0) (same : K → K → Bool) (key : X → K) (count : X → ℕ) (limit : ℕ) (order : IsKeyOrder below same)
+    (step : S → X → X → Bool → S → X → X → Type 0) (takes : (s : S) (x k : X) (b : Bool) (t : S) (x' k' : X) → step s x k b t x' k' → TakesIn same key count limit x k b x' k')
   where
-    summed : (xs ys : List X) (s : S) (k : X) → NeverFalls below key (key k) xs → AllByRecursion (λ y. 0 < count y) (k ∷ xs) → ((t : K) → total same key count t (k ∷ xs) < 2 ^ 32) → DedupsFrom step s k xs ys → AreSummed below same key count (key k) (k ∷ xs) ys
-    summed [] ys s k up stand fits e =
-        subst (AreSummed below same key count (key k) (k ∷ [])) (sym e) (record { rise = (tt, tt); from = (inl refl, tt); stand = stand; totals = λ t. refl })
-    summed (x ∷ xs) ys s k up stand fits d =
+    summed : (xs ys : List X) (s : S) (k : X) → NeverFalls below key (key k) xs → ((t : K) → total same key count t (k ∷ xs) < limit) → DedupsFrom step s k xs ys → AreSummed below same key count (key k) (k ∷ xs) ys
+    summed [] ys s k up fits e =
+        subst (AreSummed below same key count (key k) (k ∷ [])) (sym e) (record { rise = (tt, tt); from = (inl refl, tt); totals = λ t. refl })
+    summed (x ∷ xs) ys s k up fits d =
         let Case : Bool → Type 0 = λ b. step s x k b d.1 d.2 d.3 → MatchBool b (DedupsFrom step d.1 d.3 xs ys) ((zs : List X) × DedupsFrom step d.1 d.2 xs zs × (ys ≡ d.3 ∷ zs)) → AreSummed below same key count (key k) (k ∷ x ∷ xs) ys in
         let cases : Case d.0 = elim d.0 as Case [
           | true ↦ λ r rest. (
               let took = takes s x k true d.1 d.2 d.3 r in
               let one : key k ≡ key x = (order.told (key k) (key x)).0 (sym took.tells) in
-              let sum = took.adds refl (room same key count order.told k x xs one fits) in
+              let sum = took.adds refl (room same key count limit order.told k x xs one fits) in
               let moved : (t : K) → total same key count t (d.3 ∷ xs) ≡ total same key count t (k ∷ x ∷ xs) = λ t. (
               let f : X → ℕ = λ r. cond (same t (key r)) (count r) 0 in
               let new = sum_by-cons f d.3 xs in
               let old = sum_by-cons f k (x ∷ xs) in
               let older = sum_by-cons f x xs in
-              let split = one_of_two same key count order.told t k x d.3 took.stays one sum in
+              let split = one_of_two same key count limit order.told t k x d.3 took.stays one sum in
               omega arith
               ) in
               let falls : NeverFalls below key (key d.3) xs = subst (λ j. NeverFalls below key j xs) (sym one ∙ sym took.stays) up.1 in
-              let positive : 0 < count d.3 = (let first = stand.0 in omega arith) in
-              let later = summed xs ys d.1 d.3 falls (positive, stand.1.1) (λ t. let here = fits t in let same_total = moved t in omega arith) rest in
+              let later = summed xs ys d.1 d.3 falls (λ t. let here = fits t in let same_total = moved t in omega arith) rest in
               record {
                 rise = later.rise;
                 from = subst (λ j. AllByRecursion (λ y. AtMost below j (key y)) ys) took.stays later.from;
-                stand = later.stand;
                 totals = λ t. later.totals t ∙ moved t;
               }
               )
@@ -128,12 +116,11 @@ module _ {K X S : Type 0} (below : K → K → Type 0) (same : K → K → Bool)
               let from_x : DedupsFrom step d.1 x xs zs = subst (λ y. DedupsFrom step d.1 y xs zs) took.passes rest.1 in
               let is : ys ≡ k ∷ zs = rest.2 ∙ ap (λ y. y ∷ zs) stays in
               let f : K → X → ℕ = λ t r. cond (same t (key r)) (count r) 0 in
-              let later = summed xs zs d.1 x up.1 stand.1 (λ t. let here = fits t in let split = sum_by-cons (f t) k (x ∷ xs) in omega arith) from_x in
+              let later = summed xs zs d.1 x up.1 (λ t. let here = fits t in let split = sum_by-cons (f t) k (x ∷ xs) in omega arith) from_x in
               let above : (y : X) → AtMost below (key x) (key y) → below (key k) (key y) = λ y. below-at_most below order.trans (key k) (key x) (key y) apart in
               let whole : AreSummed below same key count (key k) (k ∷ x ∷ xs) (k ∷ zs) = record {
                 rise = (all-implied (λ y. AtMost below (key x) (key y)) (λ y. below (key k) (key y)) above zs later.from, later.rise);
                 from = (inl refl, all-implied (λ y. AtMost below (key x) (key y)) (λ y. AtMost below (key k) (key y)) (λ y h. inr (above y h)) zs later.from);
-                stand = (stand.0, later.stand);
                 totals = λ t. sum_by-cons (f t) k zs ∙ ap (λ n. f t k + n) (later.totals t) ∙ sym (sum_by-cons (f t) k (x ∷ xs));
               } in
               subst (AreSummed below same key count (key k) (k ∷ x ∷ xs)) (sym is) whole
@@ -142,15 +129,37 @@ module _ {K X S : Type 0} (below : K → K → Type 0) (same : K → K → Bool)
         cases d.4 d.5
 
     -- rows that were sorted, and of which each took in the next one where they have one key, are added up
-    pub is_sum : (is_less : X → X → Bool) (up_to : (x y : X) → is_less y x ≡ false → AtMost below (key x) (key y)) (rows xs ys : List X) (s : S) → AllByRecursion (λ y. 0 < count y) rows → ((t : K) → total same key count t rows < 2 ^ 32) → IsPermutation rows xs → IsSortedBy is_less xs → DedupsAll step s xs ys → IsSum below same key count rows ys
-    is_sum is_less up_to rows xs ys s stand fits moved up d =
+    pub is_sum : (is_less : X → X → Bool) (up_to : (x y : X) → is_less y x ≡ false → AtMost below (key x) (key y)) (rows xs ys : List X) (s : S) → ((t : K) → total same key count t rows < limit) → IsPermutation rows xs → IsSortedBy is_less xs → DedupsAll step s xs ys → IsSum below same key count rows ys
+    is_sum is_less up_to rows xs ys s fits moved up d =
         let kept : (t : K) → total same key count t xs ≡ total same key count t rows = λ t. sum_by-IsPermutation (λ r. cond (same t (key r)) (count r) 0) rows xs moved in
-        let stand_sorted = recursion_from_All (λ y. 0 < count y) xs (All-permutation (λ y. 0 < count y) rows xs moved (All-from_recursion (λ y. 0 < count y) rows stand)) in
-        let sorted = is_sum_of_sorted is_less up_to xs ys s up stand_sorted (λ t. let here = fits t in let one = kept t in omega arith) d in
-        record { rise = sorted.rise; stand = sorted.stand; totals = λ t. sorted.totals t ∙ kept t }
+        let sorted = is_sum_of_sorted is_less up_to xs ys s up (λ t. let here = fits t in let one = kept t in omega arith) d in
+        record { rise = sorted.rise; totals = λ t. sorted.totals t ∙ kept t }
       where
-        is_sum_of_sorted : (is_less : X → X → Bool) (up_to : (x y : X) → is_less y x ≡ false → AtMost below (key x) (key y)) (xs ys : List X) (s : S) → IsSortedBy is_less xs → AllByRecursion (λ y. 0 < count y) xs → ((t : K) → total same key count t xs < 2 ^ 32) → DedupsAll step s xs ys → IsSum below same key count xs ys
-        is_sum_of_sorted is_less up_to [] ys s up stand fits e = subst (IsSum below same key count []) (sym e) (record { rise = tt; stand = tt; totals = λ t. refl })
-        is_sum_of_sorted is_less up_to (x ∷ xs) ys s up stand fits d =
-            let whole = summed xs ys s x (sorted-never_falls below key is_less up_to x xs up) stand fits d in
-            record { rise = whole.rise; stand = whole.stand; totals = whole.totals }
+        is_sum_of_sorted : (is_less : X → X → Bool) (up_to : (x y : X) → is_less y x ≡ false → AtMost below (key x) (key y)) (xs ys : List X) (s : S) → IsSortedBy is_less xs → ((t : K) → total same key count t xs < limit) → DedupsAll step s xs ys → IsSum below same key count xs ys
+        is_sum_of_sorted is_less up_to [] ys s up fits e = subst (IsSum below same key count []) (sym e) (record { rise = tt; totals = λ t. refl })
+        is_sum_of_sorted is_less up_to (x ∷ xs) ys s up fits d =
+            let whole = summed xs ys s x (sorted-never_falls below key is_less up_to x xs up) fits d in
+            record { rise = whole.rise; totals = whole.totals }
+
+-- what is so of each row is so of each sum, if it stays so where a row takes in the next one
+module _ {X S : Type 0} (P : X → Type 0) (step : S → X → X → Bool → S → X → X → Type 0) (keeps : (s : S) (x k : X) (b : Bool) (t : S) (x' k' : X) → step s x k b t x' k' → P x → P k → P x' × P k') where
+  kept_from : (xs ys : List X) (s : S) (k : X) → P k → AllByRecursion P xs → DedupsFrom step s k xs ys → AllByRecursion P ys
+  kept_from [] ys s k first all e = subst (AllByRecursion P) (sym e) (first, tt)
+  kept_from (x ∷ xs) ys s k first all d =
+      let Case : Bool → Type 0 = λ b. step s x k b d.1 d.2 d.3 → MatchBool b (DedupsFrom step d.1 d.3 xs ys) ((zs : List X) × DedupsFrom step d.1 d.2 xs zs × (ys ≡ d.3 ∷ zs)) → AllByRecursion P ys in
+      let cases : Case d.0 = elim d.0 as Case [
+        | true ↦ λ r rest. kept_from xs ys d.1 d.3 (keeps s x k true d.1 d.2 d.3 r all.0 first).1 all.1 rest
+        | false ↦ λ r rest. (
+            let both = keeps s x k false d.1 d.2 d.3 r all.0 first in
+            subst (AllByRecursion P) (sym rest.2) (both.1, kept_from xs rest.0 d.1 d.2 both.0 all.1 rest.1)
+            )
+      ] in
+      cases d.4 d.5
+
+  pub kept_in_sums : (rows xs ys : List X) (s : S) → AllByRecursion P rows → IsPermutation rows xs → DedupsAll step s xs ys → AllByRecursion P ys
+  kept_in_sums rows xs ys s all moved d =
+      of_sorted xs (recursion_from_All P xs (All-permutation P rows xs moved (All-from_recursion P rows all))) d
+    where
+      of_sorted : (xs : List X) → AllByRecursion P xs → DedupsAll step s xs ys → AllByRecursion P ys
+      of_sorted [] all e = subst (AllByRecursion P) (sym e) tt
+      of_sorted (x ∷ xs) all d = kept_from xs ys s x all.0 all.1 d

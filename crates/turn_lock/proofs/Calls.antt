@@ -4,6 +4,7 @@ use mathlib.Core.Logic.{dite}
 use native.Mathlib.Decide.{ℕ_discrete}
 use Rattle.turn_lock.specs.declared.object.Entry.{Entry}
 use Rattle.turn_lock.specs.History.{calls_of, IsProper}
+use Rattle.crgc_ids.proofs.MembersLaws.{append-empty}
 
 -- a lock and its pass know one state from which they began
 pub same_start : {S : Type 0} (a b : Option S) (x key y : S) → a ≡ Some x → a ≡ b → b ≡ Some key → y ≡ key → x ≡ y
@@ -18,10 +19,6 @@ module _ {A : Type 0} where
   pub append_same : (xs ys : List A) → xs ++ ys ≡ ys → xs ≡ []
   append_same [] ys e = refl
   append_same (x ∷ xs) ys e = absurd (omega (arith, ap length e, length-append xs ys))
-
-  pub append_none : (xs ys : List A) → xs ++ ys ≡ [] → xs ≡ []
-  append_none [] ys e = refl
-  append_none (x ∷ xs) ys e = absurd (cc)
 
   -- of two beginnings of one history the longer goes on from the shorter
   pub two_beginnings : (a b xs ys : List A) → a ++ xs ≡ b ++ ys → length ys ≤ length xs → (mid : List A) × (b ≡ a ++ mid) × (xs ≡ mid ++ ys)
@@ -70,7 +67,7 @@ module _ {P R : Type 0} where
   nothing_later (e ∷ later) none = let here = sym (calls_of_own e later e.pass refl) ∙ none e.pass in absurd (cc)
 
   pub seen_has_none : (pass : ℕ) (later seen : List (Entry P R)) → calls_of pass (later ++ seen) ≡ [] → calls_of pass seen ≡ []
-  seen_has_none pass later seen none = let e = sym (calls_of-append pass later seen) ∙ none in ap (λ (l : List (Entry P R)). l ++ calls_of pass seen) (sym (append_none (calls_of pass later) (calls_of pass seen) e)) ∙ e
+  seen_has_none pass later seen none = let e = sym (calls_of-append pass later seen) ∙ none in ap (λ (l : List (Entry P R)). l ++ calls_of pass seen) (sym (append-empty (calls_of pass later) (calls_of pass seen) e)) ∙ e
 
 module _ {S P R : Type 0} (fits : S → List (Entry P R) → P → ℕ → Type 0) (stands : S → List (Entry P R) → S → Type 0) where
   -- a beginning of a proper history is proper

@@ -5,11 +5,11 @@ use Rattle.std.proofs.lemmas.List.{append-nil, drop_at, length-append, nil_from_
 use Rattle.std.proofs.lemmas.Bool.{and_from, eqb-false, eqb-true, lt-ltb, ltb-true, ne_eqb}
 use Rattle.byteorder.specs.Endian.{big_bytes}
 use Rattle.crgc_bytes.specs.Place.{IsBytes, Place}
-use Rattle.crgc_ids.specs.Actor.{Actor, IsActorBelow, IsPairBelow}
+use Rattle.crgc_ids.specs.Actor.{Actor, IsActorBelow, IsPairBelow, IsActor}
 use Rattle.crgc_ids.specs.Members.{IsAmong, IsPart}
 use Rattle.crgc_ids.specs.declared.rising.ActorCount.{ActorCount}
 use Rattle.crgc_ids.specs.declared.rising.PairCount.{PairCount}
-use Rattle.crgc_ids.proofs.MembersLaws.{all-member}
+use Rattle.crgc_ids.proofs.MembersLaws.{all-member, all-from_members}
 use Rattle.history_model.specs.declared.records.Bulletin.{Bulletin}
 use Rattle.history_model.specs.declared.records.Bulletin.TheVariants as bulletins
 use Rattle.history_model.specs.declared.records.Delta.{Delta}
@@ -21,11 +21,12 @@ use Rattle.wire_grammar.specs.Fields.{Reader, made}
 use Rattle.wire_grammar.specs.Named.{count_names, delta_names, is_wide, names_of, pair_names, state_names, table_of, window_names}
 use Rattle.wire_grammar.specs.Spelling.{counts_text, delta_text, index_len, magic, pairs_text, spelled, states_text, table_text, window_text}
 use Rattle.wire_grammar.specs.Reading.{body_at, bulletin_at, counts_at, delta_at, kind_at, link_at, magic_at, node_at, pairs_at, reading, states_at, table_at, window_at}
-use Rattle.wire_grammar.specs.Spellable.{AreCounts, ArePairs, AreStates, BeginsWithSpelling, IsActor, IsActorCount, IsDelta, IsPairCount, IsSpellable, IsStateRow, IsWindow}
+use Rattle.wire_grammar.specs.Spellable.{AreCounts, ArePairs, AreStates, BeginsWithSpelling, IsActorCount, IsDelta, IsPairCount, IsSpellable, IsStateRow, IsWindow}
 use Rattle.wire_grammar.proofs.Readers.{IsReader, Moves, Moves-bytes, Moves-first, Moves-second, Moves-then, between, bind_ok, both-reader, checked-reader, number-reader, ok_is}
 use Rattle.wire_grammar.proofs.Rows.{AreFitting, CountFits, PairFits, StateFits, counts-reader, node-reader, pairs-reader, reader-like, states-reader, table-reader}
-use Rattle.wire_grammar.proofs.Names.{Each, all-from_each, all_named-again, all_named-ok, each-both, each-left, each-right, len_short, rows-actors, rows-fit, rows-found, rows-named, rows_length, table_is, table_short}
+use Rattle.wire_grammar.proofs.Names.{all_named-again, all_named-ok, each-both, each-left, each-right, len_short, rows-actors, rows-fit, rows-found, rows-named, rows_length, table_is, table_short}
 use Rattle.wire_grammar.proofs.Tables.{IsTable, table_of-has, table_of-only, table_of-rises}
+use Rattle.history_model.proofs.Lists.{Each, each-more, each-one}
 
 abbrev StateAbove : StateRow → StateRow → Type 0
 StateAbove r s = IsActorBelow r.actor s.actor
@@ -45,52 +46,43 @@ count_name r = r.actor ∷ []
 abbrev pair_name : PairCount → List Actor
 pair_name r = r.owner ∷ r.target ∷ []
 
-one_name : (P : Actor → Type 0) (a : Actor) → P a → Each P (a ∷ [])
-one_name P a h x (inl e) = subst P (sym e) h
-one_name P a h x (inr m) = absurd m
-
-two_names : (P : Actor → Type 0) (a b : Actor) → P a → P b → Each P (a ∷ b ∷ [])
-two_names P a b h k x (inl e) = subst P (sym e) h
-two_names P a b h k x (inr (inl e)) = subst P (sym e) k
-two_names P a b h k x (inr (inr m)) = absurd m
-
 -- ---- the three kinds of rows, against a table
 
 in_table : (t : List Actor) → AllByRecursion IsActor t → (a : Actor) → IsAmong a t → IsActor a
 in_table t all a m = all-member IsActor a t all m
 
 state-actors : (r : StateRow) → IsStateRow r → Each IsActor (state_name r)
-state-actors r h = one_name IsActor r.actor h.0
+state-actors r h = each-one IsActor r.actor h.0
 
 state-found : (t : List Actor) → AllByRecursion IsActor t → (r : StateRow) → StateFits t r → IsStateRow r
 state-found t all r h = (in_table t all r.actor h.0, h.1)
 
 state-named : (t : List Actor) (r : StateRow) → StateFits t r → IsPart (state_name r) t
-state-named t r h = one_name (λ x. IsAmong x t) r.actor h.0
+state-named t r h = each-one (λ x. IsAmong x t) r.actor h.0
 
 state-fitting : (t : List Actor) (r : StateRow) → IsStateRow r → IsPart (state_name r) t → StateFits t r
 state-fitting t r h p = (p r.actor (inl refl), h.1)
 
 count-actors : (r : ActorCount) → IsActorCount r → Each IsActor (count_name r)
-count-actors r h = one_name IsActor r.actor h.0
+count-actors r h = each-one IsActor r.actor h.0
 
 count-found : (t : List Actor) → AllByRecursion IsActor t → (r : ActorCount) → CountFits t r → IsActorCount r
 count-found t all r h = (in_table t all r.actor h.0, h.1)
 
 count-named : (t : List Actor) (r : ActorCount) → CountFits t r → IsPart (count_name r) t
-count-named t r h = one_name (λ x. IsAmong x t) r.actor h.0
+count-named t r h = each-one (λ x. IsAmong x t) r.actor h.0
 
 count-fitting : (t : List Actor) (r : ActorCount) → IsActorCount r → IsPart (count_name r) t → CountFits t r
 count-fitting t r h p = (p r.actor (inl refl), h.1)
 
 pair-actors : (r : PairCount) → IsPairCount r → Each IsActor (pair_name r)
-pair-actors r h = two_names IsActor r.owner r.target h.0 h.1
+pair-actors r h = each-more IsActor r.owner (r.target ∷ []) h.0 (each-one IsActor r.target h.1)
 
 pair-found : (t : List Actor) → AllByRecursion IsActor t → (r : PairCount) → PairFits t r → IsPairCount r
 pair-found t all r h = (in_table t all r.owner h.0, in_table t all r.target h.1, h.2)
 
 pair-named : (t : List Actor) (r : PairCount) → PairFits t r → IsPart (pair_name r) t
-pair-named t r h = two_names (λ x. IsAmong x t) r.owner r.target h.0 h.1
+pair-named t r h = each-more (λ x. IsAmong x t) r.owner (r.target ∷ []) h.0 (each-one (λ x. IsAmong x t) r.target h.1)
 
 pair-fitting : (t : List Actor) (r : PairCount) → IsPairCount r → IsPart (pair_name r) t → PairFits t r
 pair-fitting t r h p = (p r.owner (inl refl), p r.target (inr (inl refl)), h.2)
@@ -153,7 +145,7 @@ table wide = reader-like (formed wide) (table-fits wide) (table-reader wide)
 names-formed : (wide : Bool) (names : List Actor) → Each IsActor names → is_wide (table_of names) ≡ wide → IsFormed wide (table_of names)
 names-formed wide names h e = record {
   rises = table_of-rises names;
-  actors = all-from_each IsActor (table_of names) (λ x m. h x (table_of-only x names m));
+  actors = all-from_members IsActor (table_of names) (λ x m. h x (table_of-only x names m));
   form = e;
 }
 

@@ -3,23 +3,20 @@ use Rattle.std.proofs.Common.{◌≡◌, ◌<◌, ◌≤◌, ◌+◌, ◌*◌, �
 use Rattle.std.specs.List.{AllByRecursion, flat_map, list_any}
 use Rattle.std.proofs.lemmas.Bool.{ltb-false}
 use Rattle.std.proofs.lemmas.List.Concat.{flat_map-cons}
-use Rattle.crgc_ids.specs.Actor.{Actor, IsActorBelow, same_actor}
+use Rattle.crgc_ids.specs.Actor.{Actor, IsActorBelow, same_actor, IsActor}
 use Rattle.crgc_ids.specs.Members.{IsAmong, IsPart}
 use Rattle.crgc_ids.specs.Rising.{IsRising}
 use Rattle.crgc_ids.proofs.ActorLaws.{same_actor-decides}
-use Rattle.crgc_ids.proofs.MembersLaws.{IsAmong-append_cases, IsAmong-append_left, IsAmong-append_right, list_any-member}
+use Rattle.crgc_ids.proofs.MembersLaws.{IsAmong-append_cases, IsAmong-append_left, IsAmong-append_right, list_any-member, all-implied}
 use Rattle.history_model.proofs.RisingActors.{among-decides}
 use Rattle.wire_grammar.specs.Named.{table_of}
 use Rattle.wire_grammar.specs.Reading.{all_named, unnamed}
 use Rattle.wire_grammar.specs.Spelling.{index_len}
-use Rattle.wire_grammar.specs.Spellable.{AreRows, IsActor}
+use Rattle.wire_grammar.specs.Spellable.{AreRows}
 use Rattle.wire_grammar.proofs.Readers.{ok_is}
-use Rattle.wire_grammar.proofs.Rows.{AreFitting, all_like}
+use Rattle.wire_grammar.proofs.Rows.{AreFitting}
 use Rattle.wire_grammar.proofs.Tables.{IsTable, part_length, table-same, table_of-has, table_of-only, table_of-rises}
-
--- P holds for each member
-abbrev pub Each : (Actor → Type 0) → List Actor → Type 0
-Each P xs = (x : Actor) → IsAmong x xs → P x
+use Rattle.history_model.proofs.Lists.{Each}
 
 pub each-both : (P : Actor → Type 0) (xs ys : List Actor) → Each P xs → Each P ys → Each P (xs ++ ys)
 each-both P xs ys h k x m = elim (IsAmong-append_cases x xs ys m) [ inl l ↦ h x l | inr r ↦ k x r ]
@@ -29,10 +26,6 @@ each-left P xs ys h x m = h x (IsAmong-append_left x xs ys m)
 
 pub each-right : (P : Actor → Type 0) (xs ys : List Actor) → Each P (xs ++ ys) → Each P ys
 each-right P xs ys h x m = h x (IsAmong-append_right x xs ys m)
-
-pub all-from_each : (P : Actor → Type 0) (xs : List Actor) → Each P xs → AllByRecursion P xs
-all-from_each P [] h = tt
-all-from_each P (x ∷ xs) h = (h x (inl refl), all-from_each P xs (λ y m. h y (inr m)))
 
 module _ {X : Type 0} (names : X → List Actor) where
   -- what holds of each name of each row holds of all names
@@ -60,13 +53,13 @@ module _ {X : Type 0} (names : X → List Actor) where
       pub rows-found : (table : List Actor) (IsLen : ℕ → Type 0) (xs : List X) → AllByRecursion IsActor table → ((n : ℕ) → IsLen n → n < 2 ^ 32) → AreFitting Above (Fits table) IsLen xs → AreRows Above IsRow xs
       rows-found table IsLen xs all short h = record {
         rise = h.rise;
-        stand = all_like (Fits table) IsRow (found table all) xs h.fit;
+        stand = all-implied (Fits table) IsRow (found table all) xs h.fit;
         fit = short (length xs) h.len;
       }
 
       -- rows that fit a table name its actors
       pub rows-named : (table : List Actor) (IsLen : ℕ → Type 0) (xs : List X) → AreFitting Above (Fits table) IsLen xs → IsPart (flat_map names xs) table
-      rows-named table IsLen xs h = each-names (λ x. IsAmong x table) xs (all_like (Fits table) (λ r. IsPart (names r) table) (named table) xs h.fit)
+      rows-named table IsLen xs h = each-names (λ x. IsAmong x table) xs (all-implied (Fits table) (λ r. IsPart (names r) table) (named table) xs h.fit)
 
       -- rows whose names the table has fit it
       pub rows-fit : (table : List Actor) (IsLen : ℕ → Type 0) (xs : List X) → AreRows Above IsRow xs → IsPart (flat_map names xs) table → IsLen (length xs) → AreFitting Above (Fits table) IsLen xs
@@ -77,7 +70,7 @@ module _ {X : Type 0} (names : X → List Actor) where
       }
 
       pub rows-actors : (xs : List X) → AreRows Above IsRow xs → Each IsActor (flat_map names xs)
-      rows-actors xs h = each-names IsActor xs (all_like IsRow (λ r. Each IsActor (names r)) actors xs h.stand)
+      rows-actors xs h = each-names IsActor xs (all-implied IsRow (λ r. Each IsActor (names r)) actors xs h.stand)
 
 -- rows that rise by their actor are not more than the actors of a table that has them
 module _ {X : Type 0} (actor : X → Actor) where

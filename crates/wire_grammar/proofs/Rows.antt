@@ -6,7 +6,7 @@ use Rattle.std.proofs.lemmas.Bool.{le-ltb, ltb-true, lt-ltb}
 use Rattle.std.proofs.lemmas.Bool.Decides.{Decides-and, Decides-or}
 use Rattle.byteorder.specs.Endian.{big_bytes, big_number}
 use Rattle.crgc_bytes.specs.Place.{Place, after}
-use Rattle.crgc_ids.specs.Actor.{Actor, IsActorBelow, IsPairBelow, is_actor_below, same_actor}
+use Rattle.crgc_ids.specs.Actor.{Actor, IsActorBelow, IsPairBelow, is_actor_below, same_actor, IsActor}
 use Rattle.crgc_ids.specs.Members.{IsAmong}
 use Rattle.crgc_ids.specs.Rising.{IsRising}
 use Rattle.crgc_ids.specs.declared.rising.ActorCount.{ActorCount}
@@ -19,9 +19,10 @@ use Rattle.wire_grammar.specs.Fields.{◌>>=◌, Reader, both, checked, fault, i
 use Rattle.wire_grammar.specs.Named.{index_of}
 use Rattle.wire_grammar.specs.Spelling.{actor_text, count_text, counts_text, flags, index_len, index_text, pair_text, pairs_text, state_text, states_text, table_text}
 use Rattle.wire_grammar.specs.Reading.{actor_at, actor_of, count_at, count_row, counts_at, flags_at, index_at, is_pair_below, key_at, node_at, pair_key_at, pair_row, pairs_at, serial_at, state_row, states_at, table_at, table_len_at, table_row}
-use Rattle.wire_grammar.specs.Spellable.{IsActor, IsCount}
+use Rattle.wire_grammar.specs.Spellable.{IsCount}
 use Rattle.wire_grammar.proofs.Readers.{AreChained, IsReader, Moves, bind_ok, both-reader, checked-reader, guard_ok, made-reader, number-reader, ok_is, section-reader}
 use Rattle.wire_grammar.proofs.Tables.{IsTable, index_of-slice_get, slice_get-index_of, slice_get-member}
+use Rattle.crgc_ids.proofs.MembersLaws.{all-implied}
 
 -- the same reader, with what fits in other words
 pub reader-like : {X : Type 0} {text : X → List ℕ} {read : Reader X} {F G : X → Type 0} → ((x : X) → F x → G x) → ((x : X) → G x → F x) → IsReader text read F → IsReader text read G
@@ -119,11 +120,6 @@ flags_below true false = omega arith
 flags_below false true = omega arith
 flags_below false false = omega arith
 
--- one fact for each item from another
-pub all_like : {X : Type 0} (P Q : X → Type 0) → ((x : X) → P x → Q x) → (xs : List X) → AllByRecursion P xs → AllByRecursion Q xs
-all_like P Q f [] h = tt
-all_like P Q f (x ∷ xs) h = (f x h.0, all_like P Q f xs h.1)
-
 module _ {X K : Type 0} (key : X → K) (below : K → K → Bool) (Above : X → X → Type 0) (Fits : X → Type 0)
     (up : (x y : X) → Decides (below (key x) (key y)) (Above x y))
     (trans : (x y z : X) → Above x y → Above y z → Above x z)
@@ -132,7 +128,7 @@ module _ {X K : Type 0} (key : X → K) (below : K → K → Bool) (Above : X �
     chain-above x [] h = tt
     chain-above x (y ∷ ys) h =
         let first = (up x y).0 h.0.1 in
-        (first, all_like (Above y) (Above x) (λ z k. trans x y z first k) ys (chain-above y ys h.1))
+        (first, all-implied (Above y) (Above x) (λ z k. trans x y z first k) ys (chain-above y ys h.1))
 
     -- chained rows rise, and each of them fits
     pub chain-rises : (last : Option K) (xs : List X) → AreChained key below Fits last xs → IsRising Above xs × AllByRecursion Fits xs

@@ -1,7 +1,7 @@
 -- Which bulletins have a spelling.
 use Rattle.std.specs.Prelude.{ℕ, ◌≡◌, ◌≢◌, ◌<◌, ◌^◌, List, ◌++◌, length}
 use Rattle.std.specs.List.{AllByRecursion}
-use Rattle.crgc_ids.specs.Actor.{Actor, IsActorBelow, IsPairBelow}
+use Rattle.crgc_ids.specs.Actor.{IsActorBelow, IsPairBelow, IsActor}
 use Rattle.crgc_ids.specs.Rising.{IsRising}
 use Rattle.crgc_ids.specs.declared.rising.ActorCount.{ActorCount}
 use Rattle.crgc_ids.specs.declared.rising.PairCount.{PairCount}
@@ -14,10 +14,6 @@ use Rattle.wire_grammar.specs.Spelling.{spelled}
 
 abbrev pub IsCount : ℕ → Type 0
 IsCount n = (0 < n) × (n < 2 ^ 32)
-
--- a node's number is below 16, a serial below 262,144
-abbrev pub IsActor : Actor → Type 0
-IsActor a = (a.node < 16) × (a.serial < 262144)
 
 abbrev pub IsStateRow : StateRow → Type 0
 IsStateRow r = IsActor r.actor × (r.received < 2 ^ 32)

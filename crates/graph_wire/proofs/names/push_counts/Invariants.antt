@@ -1,8 +1,8 @@
 use Rattle.std.proofs.Common.{◌≡◌, ◌++◌, take}
 use Rattle.std.specs.List.{AllByRecursion}
 use Rattle.wire_grammar.specs.Named.{count_names}
-use Rattle.wire_grammar.specs.Spellable.{IsActor}
 use Rattle.graph_wire.proofs.names.push_counts.Given as goal
+use Rattle.crgc_ids.specs.Actor.{IsActor}
 
 abbrev pub invariant-loop-row : goal.invariant-loop-row
 invariant-loop-row l = record {

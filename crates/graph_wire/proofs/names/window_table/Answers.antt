@@ -2,10 +2,10 @@ use Rattle.std.proofs.Common.{◌≡◌, ◌∙◌, ◌++◌, ap, subst}
 use Rattle.std.specs.Prelude.{IfOk}
 use Rattle.std.specs.List.{AllByRecursion}
 use Rattle.wire_grammar.specs.Named.{window_names, table_of}
-use Rattle.wire_grammar.specs.Spellable.{IsActor}
 use Rattle.graph_wire.specs.Pushed.{pushed_window}
 use Rattle.graph_wire.proofs.Pushing.{members-actors, members-window, members-table, on_ok}
 use Rattle.graph_wire.proofs.names.window_table.Goals as goal
+use Rattle.crgc_ids.specs.Actor.{IsActor}
 
 pub returns-clause-value : goal.returns-clause-value
 returns-clause-value c =

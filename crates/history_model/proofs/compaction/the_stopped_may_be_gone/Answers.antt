@@ -1,5 +1,8 @@
-use Rattle.history_model.proofs.CompactedSweeps.{fewer-gone, gone-stays, more-gone, nobody-gone}
+use Rattle.history_model.proofs.CompactedSweeps.{fewer-gone, gone-stays, more-gone, nobody-gone, once_dead-gone}
 use Rattle.history_model.proofs.compaction.the_stopped_may_be_gone.Goals as goal
+
+pub returns-clause-once_dead : goal.returns-clause-once_dead
+returns-clause-once_dead c = once_dead-gone
 
 pub returns-clause-first : goal.returns-clause-first
 returns-clause-first c = nobody-gone

@@ -1,12 +1,18 @@
-use Rattle.std.proofs.Common.{◌+◌, min, refl, rules}
+use Rattle.std.proofs.Common.{◌+◌, ◌<◌, ◌^◌, ℕ, min, refl, arith, rules}
 use Rattle.crgc_ids.specs.declared.rising.PairCount.{PairCount}
-use Rattle.row_sums.proofs.RowLemmas.{PairBelow, pair_order, pairs-sorted, same_pair, takes_in}
-use Rattle.row_sums.proofs.SumLemmas.{is_sum}
+use Rattle.row_sums.proofs.RowLemmas.{pairs-sorted, stays_positive, takes_in}
+use Rattle.row_sums.proofs.SumLemmas.{is_sum, kept_in_sums}
 use Rattle.row_sums.proofs.pairs.add_up_pairs.Goals as goal
+use Rattle.crgc_ids.proofs.KeyOrders.{PairBelow, pair_order, same_pair}
 
 pub returns : goal.returns
 returns c =
-    let sum = is_sum PairBelow same_pair (λ (r : PairCount). (r.owner, r.target)) (λ (r : PairCount). r.count) pair_order _
-    (λ s next last b t next' last' h. takes_in same_pair (λ (r : PairCount). (r.owner, r.target)) (λ (r : PairCount). r.count) next last b next' last' (record last { count = min (last.count + next.count) 4294967295 }) refl refl (search rules) (search rules) (search rules))
-    _ pairs-sorted _ _ _ _ c.requires.stand (λ t. c.requires.fits t.0 t.1) c.sort_unstable.ensures.permutation c.sort_unstable.ensures.sorted c.dedup_by.ensures.filtered.told in
-    record { rise = sum.rise; stand = sum.stand; totals = λ b a. sum.totals (b, a) }
+    let count : PairCount → ℕ = λ r. r.count in
+    let summed : PairCount → PairCount → PairCount = λ next last. record last { count = min (last.count + next.count) 4294967295 } in
+    let sum = is_sum PairBelow same_pair (λ (r : PairCount). (r.owner, r.target)) count (2 ^ 32) pair_order _
+    (λ s next last b t next' last' h. takes_in same_pair (λ (r : PairCount). (r.owner, r.target)) count (2 ^ 32) 4294967295 (omega arith) next last b next' last' (summed next last) refl refl (search rules) (search rules) (search rules))
+    _ pairs-sorted _ _ _ _ (λ t. c.requires.fits t.0 t.1) c.sort_unstable.ensures.permutation c.sort_unstable.ensures.sorted c.dedup_by.ensures.filtered.told in
+    let stand = kept_in_sums (λ (r : PairCount). 0 < r.count) _
+    (λ s next last b t next' last' h. stays_positive count next last b next' last' (summed next last) refl (search rules) (search rules))
+    _ _ _ _ c.requires.stand c.sort_unstable.ensures.permutation c.dedup_by.ensures.filtered.told in
+    record { rise = sum.rise; stand = stand; totals = λ b a. sum.totals (b, a) }

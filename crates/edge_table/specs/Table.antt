@@ -1,0 +1,44 @@
+-- What contracts see of a table of edges.
+use Rattle.std.specs.Prelude.{◌≡◌, ◌&&◌, ◌<◌, ◌^◌, ℕ, Bool, List, Option, length, map, position, slice_index_or, slice_set}
+use Rattle.std.specs.List.{AllByRecursion, IsDistinct}
+use Rattle.crgc_ids.specs.Actor.{Actor, same_actor}
+use Rattle.edge_table.specs.Ends.{PlaceEnds, no_ends, numbers_of}
+use Rattle.edge_table.specs.declared.table.Edge.{Edge}
+
+-- the pairs of an owner and a target in the order in which they were added, what is kept of each, and how many places there are
+pub record Edges : Type 0 where
+  pub pairs : List (Actor × Actor)
+  pub edges : List Edge
+  pub places : ℕ
+
+abbrev pub same_pair : Actor × Actor → Actor × Actor → Bool
+same_pair p q = same_actor p.0 q.0 && same_actor p.1 q.1
+
+-- the number of the edge from an owner to a target
+abbrev pub number_at : Edges → Actor → Actor → Option ℕ
+number_at t owner target = position (same_pair (owner, target)) t.pairs
+
+-- what is kept of the edge with this number, and nothing where there is none
+abbrev pub edge_at : Edges → ℕ → Edge
+edge_at t number = slice_index_or t.edges number (record { owner = 0; target = 0; given = 0; released = 0 })
+
+-- the numbers of the edges whose owner, and of those whose target, has this place
+abbrev pub edges_from : List Edge → ℕ → List ℕ
+edges_from edges place = numbers_of place 0 (map (λ e. e.owner) edges)
+
+abbrev pub edges_to : List Edge → ℕ → List ℕ
+edges_to edges place = numbers_of place 0 (map (λ e. e.target) edges)
+
+-- the edge with this number is changed, and no other
+abbrev pub with_edge : Edges → ℕ → Edge → Edges
+with_edge t number edge = record t { edges = slice_set t.edges number edge }
+
+-- how pairs, edges and the lists by place stand to each other
+pub record IsTable (pairs : List (Actor × Actor)) (edges : List Edge) (places : List PlaceEnds) : Type 0 where
+  pub long : length edges ≡ length pairs
+  pub few_edges : length edges < 2 ^ 32
+  pub few_places : length places < 2 ^ 32
+  pub distinct : IsDistinct same_pair pairs
+  pub ends : AllByRecursion (λ e. (e.owner < length places) × (e.target < length places)) edges
+  pub from : (p : ℕ) → (slice_index_or places p no_ends).from ≡ edges_from edges p
+  pub to : (p : ℕ) → (slice_index_or places p no_ends).to ≡ edges_to edges p

@@ -1,0 +1,111 @@
+//! The edges of one place.
+ghost use Rattle.std.specs.Prelude.{◌≡◌, ◌-◌, ◌<◌, ◌++◌, [], ◌∷◌, OnOk, length, take};
+ghost use Rattle.edge_table.specs.Ends.{HasSameLists};
+
+use crgc_ids::NoMemory;
+use std::alloc::Global;
+use std::marker::Model;
+
+/// The numbers of the edges that lead from a place, and of those that lead to it, with reserved room for more. Contracts see
+/// both lists, and for how many more each has room.
+#[derive(Drop)]
+pub struct Ends {
+    from: Vec<u32>,
+    to: Vec<u32>,
+}
+
+impl Model for Ends {
+    ghost use Rattle.std.specs.Prelude.{◌-◌, vec_capacity, vec_len};
+    ghost use Rattle.edge_table.specs.Ends.{PlaceEnds};
+
+    ghost Value = { PlaceEnds };
+
+    ghost view = { λ e. record { from = e.from.items; to = e.to.items; from_room = vec_capacity e.from - vec_len e.from; to_room = vec_capacity e.to - vec_len e.to } };
+}
+
+impl Ends {
+    /// No edge.
+    pub fn new(alloc: Global) -> Ends
+        ensures from { result.from ≡ [] }
+        ensures to { result.to ≡ [] }
+    {
+        Ends {
+            from: Vec::new(alloc),
+            to: Vec::new(alloc),
+        }
+    }
+
+    /// Room for one more edge from the place.
+    pub fn reserve_from(&mut self) -> Result<(), NoMemory>
+        ensures lists { HasSameLists self.old self.new }
+        ensures others { self.new.to_room ≡ self.old.to_room }
+        ensures ok { OnOk result (0 < self.new.from_room) }
+    {
+        match self.from.reserve(1) {
+            Ok(()) => Ok(()),
+            Err(_) => Err(NoMemory),
+        }
+    }
+
+    /// Room for one more edge to the place.
+    pub fn reserve_to(&mut self) -> Result<(), NoMemory>
+        ensures lists { HasSameLists self.old self.new }
+        ensures others { self.new.from_room ≡ self.old.from_room }
+        ensures ok { OnOk result (0 < self.new.to_room) }
+    {
+        match self.to.reserve(1) {
+            Ok(()) => Ok(()),
+            Err(_) => Err(NoMemory),
+        }
+    }
+
+    /// The edge leads from the place, last of all. It takes no memory.
+    pub fn push_from(&mut self, number: u32)
+        requires { 0 < self.old.from_room }
+        ensures from { self.new.from ≡ self.old.from ++ number ∷ [] }
+        ensures to { self.new.to ≡ self.old.to }
+        ensures others { self.new.to_room ≡ self.old.to_room }
+    {
+        self.from.push_reserved(number);
+    }
+
+    /// The edge leads to the place, last of all. It takes no memory.
+    pub fn push_to(&mut self, number: u32)
+        requires { 0 < self.old.to_room }
+        ensures to { self.new.to ≡ self.old.to ++ number ∷ [] }
+        ensures from { self.new.from ≡ self.old.from }
+        ensures others { self.new.from_room ≡ self.old.from_room }
+    {
+        self.to.push_reserved(number);
+    }
+
+    /// The last edge from the place is taken away.
+    pub fn pop_from(&mut self)
+        ensures from { self.new.from ≡ take (length self.old.from - 1) self.old.from }
+        ensures to { self.new.to ≡ self.old.to }
+    {
+        self.from.pop();
+    }
+
+    /// The last edge to the place is taken away.
+    pub fn pop_to(&mut self)
+        ensures to { self.new.to ≡ take (length self.old.to - 1) self.old.to }
+        ensures from { self.new.from ≡ self.old.from }
+    {
+        self.to.pop();
+    }
+
+    /// The numbers of the edges from the place.
+    pub fn from(&self) -> &[u32]
+        ensures { result.now ≡ self.now.from }
+    {
+        self.from.as_slice()
+    }
+
+    /// The numbers of the edges to the place.
+    pub fn to(&self) -> &[u32]
+        ensures { result.now ≡ self.now.to }
+    {
+        self.to.as_slice()
+    }
+}

@@ -1,0 +1,7 @@
+//! The edges of a graph, each from an owner to a target: numbered, counted, and listed by the places of both.
+#![tactic(auto)]
+
+mod ends;
+mod table;
+
+pub use table::{Edge, EdgeTable};

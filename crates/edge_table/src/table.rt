@@ -1,0 +1,231 @@
+//! Edges by number and by place.
+ghost use Rattle.std.specs.Prelude.{◌≡◌, ◌+◌, ◌-◌, ◌<◌, ◌≤◌, ◌^◌, ◌++◌, [], ◌∷◌, None, IfOk, IfSome, OnErr, OnOk, length, take, vec_capacity, vec_len};
+ghost use Rattle.std.specs.List.{IsDistinct};
+ghost use Rattle.edge_table.specs.Ends.{HasRoom, HaveSameLists};
+ghost use Rattle.edge_table.specs.Table.{edge_at, edges_from, edges_to, number_at, same_pair, with_edge};
+
+use crate::ends::Ends;
+use crgc_ids::{ActorId, NoMemory};
+use indexmap::IndexSet;
+use std::alloc::Global;
+use std::marker::Model;
+
+/// An edge: the places of its owner and its target, how many references the owner was given, and how many it released.
+#[derive(Clone, Copy, PartialEq, Eq, Debug)]
+pub struct Edge {
+    pub owner: u32,
+    pub target: u32,
+    pub given: u64,
+    pub released: u64,
+}
+
+/// The edges between actors, numbered from 0 in the order in which they were added, and for each place the numbers of those
+/// that lead from it and to it. It keeps its allocator. Contracts see the pairs, the edges and how many places there are.
+#[derive(Drop)]
+pub struct EdgeTable {
+    alloc: Global,
+    pairs: IndexSet<(ActorId, ActorId)>,
+    edges: Vec<Edge>,
+    places: Vec<Ends>,
+}
+
+impl Model for EdgeTable {
+    ghost use Rattle.std.specs.Prelude.{length};
+    ghost use Rattle.edge_table.specs.Table.{Edges, IsTable};
+
+    ghost Value = { Edges };
+
+    ghost view = { λ t. record { pairs = t.pairs.keys; edges = t.edges.items; places = length t.places.items } };
+
+    ghost invariant = { λ t. IsTable t.pairs.keys t.edges.items t.places.items };
+}
+
+impl EdgeTable {
+    /// No place and no edge.
+    pub fn new(alloc: Global) -> EdgeTable
+        ensures { result ≡ record { pairs = []; edges = []; places = 0 } }
+    {
+        EdgeTable {
+            alloc,
+            pairs: IndexSet::new(alloc),
+            edges: Vec::new(alloc),
+            places: Vec::new(alloc),
+        }
+    }
+
+    /// How many places there are.
+    pub fn place_count(&self) -> u32
+        ensures { result ≡ self.now.places }
+    {
+        self.places.len() as u32
+    }
+
+    /// How many edges there are.
+    pub fn edge_count(&self) -> u32
+        ensures { result ≡ length self.now.edges }
+    {
+        self.edges.len() as u32
+    }
+
+    /// There is one place more, the last, without edges. After `NoMemory`, which comes too where there are 2^32 - 1 places, all
+    /// is as before. Amortized constant time.
+    pub fn add_place(&mut self) -> Result<(), NoMemory>
+        ensures ok { OnOk result (self.new ≡ record self.old { places = self.old.places + 1 }) }
+        ensures err { OnErr result (self.new ≡ self.old) }
+    {
+        if self.places.len() >= 4_294_967_295 {
+            return Err(NoMemory);
+        }
+        match self.places.push(Ends::new(self.alloc)) {
+            Ok(()) => Ok(()),
+            Err(_) => Err(NoMemory),
+        }
+    }
+
+    /// The last place, which has no edges, is taken away. Constant time.
+    pub fn remove_last_place(&mut self)
+        requires some { 0 < self.old.places }
+        requires from { edges_from self.old.edges (self.old.places - 1) ≡ [] }
+        requires to { edges_to self.old.edges (self.old.places - 1) ≡ [] }
+        ensures { self.new ≡ record self.old { places = self.old.places - 1 } }
+    {
+        self.places.pop();
+    }
+
+    /// The number of the edge from the owner to the target; None exactly where there is none. Constant time on average.
+    pub fn number_of(&self, owner: ActorId, target: ActorId) -> Option<u32>
+        ensures number { result ≡ number_at self.now owner target }
+        ensures within { IfSome result (λ number. number < length self.now.edges) }
+        ensures distinct { IsDistinct same_pair self.now.pairs }
+    {
+        match self.pairs.get_index_of(&(owner, target)) {
+            Some(number) => Some(number as u32),
+            None => None,
+        }
+    }
+
+    /// There is one edge more, the last, with nothing given and released; its number is the answer. After `NoMemory`, which
+    /// comes too where there are 2^32 - 1 edges, all is as before. Constant time on average, amortized.
+    pub fn add(
+        &mut self,
+        owner: ActorId,
+        target: ActorId,
+        owner_place: u32,
+        target_place: u32,
+    ) -> Result<u32, NoMemory>
+        requires new { number_at self.old owner target ≡ None }
+        requires owner { owner_place < self.old.places }
+        requires target { target_place < self.old.places }
+        ensures number { IfOk result (λ number. number ≡ length self.old.edges) }
+        ensures ok { OnOk result (self.new ≡ record self.old { pairs = self.old.pairs ++ (owner, target) ∷ []; edges = self.old.edges ++ record { owner = owner_place; target = target_place; given = 0; released = 0 } ∷ [] }) }
+        ensures err { OnErr result (self.new ≡ self.old) }
+    {
+        let number = self.edges.len();
+        if number >= 4_294_967_295 {
+            return Err(NoMemory);
+        }
+        let (from, to) = (owner_place as usize, target_place as usize);
+        if reserve(&mut self.edges, &mut self.places, from, to).is_err() {
+            return Err(NoMemory);
+        }
+        if self.pairs.insert((owner, target)).is_err() {
+            return Err(NoMemory);
+        }
+        self.edges.push_reserved(Edge {
+            owner: owner_place,
+            target: target_place,
+            given: 0,
+            released: 0,
+        });
+        self.places[from].push_from(number as u32);
+        self.places[to].push_to(number as u32);
+        Ok(number as u32)
+    }
+
+    /// The last edge is taken away. Constant time on average.
+    pub fn remove_last_edge(&mut self)
+        requires { 0 < length self.old.edges }
+        ensures { let kept = length self.old.edges - 1 in self.new ≡ record self.old { pairs = take kept self.old.pairs; edges = take kept self.old.edges } }
+    {
+        self.pairs.pop();
+        if let Some(edge) = self.edges.pop() {
+            self.places[edge.owner as usize].pop_from();
+            self.places[edge.target as usize].pop_to();
+        }
+    }
+
+    /// What is kept of the edge with this number.
+    pub fn edge(&self, number: u32) -> Edge
+        requires { number < length self.now.edges }
+        ensures edge { result ≡ edge_at self.now number }
+        ensures owner { result.owner < self.now.places }
+        ensures target { result.target < self.now.places }
+    {
+        self.edges[number as usize]
+    }
+
+    /// So many more references are given along the edge.
+    pub fn give(&mut self, number: u32, count: u64)
+        requires some { number < length self.old.edges }
+        requires fits { (edge_at self.old number).given + count < 2 ^ 64 }
+        ensures { let e = edge_at self.old number in self.new ≡ with_edge self.old number (record e { given = e.given + count }) }
+    {
+        self.edges[number as usize].given += count;
+    }
+
+    /// So many of the references that were given along the edge are taken back.
+    pub fn take_back(&mut self, number: u32, count: u64)
+        requires some { number < length self.old.edges }
+        requires given { count ≤ (edge_at self.old number).given }
+        ensures { let e = edge_at self.old number in self.new ≡ with_edge self.old number (record e { given = e.given - count }) }
+    {
+        self.edges[number as usize].given -= count;
+    }
+
+    /// So many more references are released along the edge.
+    pub fn release(&mut self, number: u32, count: u64)
+        requires some { number < length self.old.edges }
+        requires fits { (edge_at self.old number).released + count < 2 ^ 64 }
+        ensures { let e = edge_at self.old number in self.new ≡ with_edge self.old number (record e { released = e.released + count }) }
+    {
+        self.edges[number as usize].released += count;
+    }
+
+    /// The numbers of the edges from the place, rising.
+    pub fn edges_from(&self, place: u32) -> &[u32]
+        requires { place < self.now.places }
+        ensures { result.now ≡ edges_from self.now.edges place }
+    {
+        self.places[place as usize].from()
+    }
+
+    /// The numbers of the edges to the place, rising.
+    pub fn edges_to(&self, place: u32) -> &[u32]
+        requires { place < self.now.places }
+        ensures { result.now ≡ edges_to self.now.edges place }
+    {
+        self.places[place as usize].to()
+    }
+}
+
+/// Room for one more edge, also from the one place and to the other.
+fn reserve(
+    edges: &mut Vec<Edge>,
+    places: &mut Vec<Ends>,
+    from: usize,
+    to: usize,
+) -> Result<(), NoMemory>
+    requires from { from < length places.old.items }
+    requires to { to < length places.old.items }
+    ensures edges { edges.new.items ≡ edges.old.items }
+    ensures places { HaveSameLists places.old.items places.new.items }
+    ensures ok { OnOk result (HasRoom (vec_capacity edges.new - vec_len edges.new) places.new.items from to) }
+{
+    if edges.reserve(1).is_err() {
+        return Err(NoMemory);
+    }
+    if places[from].reserve_from().is_err() {
+        return Err(NoMemory);
+    }
+    places[to].reserve_to()
+}

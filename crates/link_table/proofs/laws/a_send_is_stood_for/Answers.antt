@@ -1,0 +1,5 @@
+use Rattle.link_table.proofs.StandingSteps.{sends-message}
+use Rattle.link_table.proofs.laws.a_send_is_stood_for.Goals as goal
+
+pub returns : goal.returns
+returns c = sends-message

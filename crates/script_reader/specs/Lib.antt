@@ -1,0 +1,11 @@
+pub mod Words
+pub mod Walk
+pub mod Instructions
+pub mod Rows
+pub mod Numbered
+pub mod Scripts
+pub mod Valid
+pub mod Gives
+pub mod Taken
+pub mod Found
+pub mod Drafts
