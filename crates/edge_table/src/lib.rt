@@ -5,3 +5,6 @@ mod ends;
 mod table;
 
 pub use table::{Edge, EdgeTable};
+
+#[cfg(test)]
+mod tests;
