@@ -18,9 +18,12 @@ same_pair p q = same_actor p.0 q.0 && same_actor p.1 q.1
 abbrev pub number_at : Edges → Actor → Actor → Option ℕ
 number_at t owner target = position (same_pair (owner, target)) t.pairs
 
--- what is kept of the edge with this number, and nothing where there is none
+abbrev pub no_edge : Edge
+no_edge = record { owner = 0; target = 0; given = 0; released = 0 }
+
+-- what is kept of the edge with this number
 abbrev pub edge_at : Edges → ℕ → Edge
-edge_at t number = slice_index_or t.edges number (record { owner = 0; target = 0; given = 0; released = 0 })
+edge_at t number = slice_index_or t.edges number no_edge
 
 -- the numbers of the edges whose owner, and of those whose target, has this place
 abbrev pub edges_from : List Edge → ℕ → List ℕ

@@ -2,6 +2,10 @@
 #![tactic(auto)]
 
 mod ends;
+pub mod laws;
 mod table;
 
 pub use table::{Edge, EdgeTable};
+
+#[cfg(test)]
+mod tests;

@@ -1,0 +1,61 @@
+-- Which edges are listed at a place.
+use Rattle.std.proofs.Common.{◌≡◌, ◌+◌, ◌<◌, ◌↔◌, ℕ, zero, suc, Bool, true, false, cond, List, [], ◌∷◌, eqb, length, get_or, map, refl, sym, ◌∙◌, ap, subst, inl, inr, arith}
+use Rattle.std.proofs.lemmas.Bool.{eq-eqb, eqb-true}
+use Rattle.std.proofs.lemmas.List.{length-map}
+use Rattle.crgc_ids.specs.Members.{IsAmong}
+use Rattle.edge_table.specs.Ends.{numbers_of}
+use Rattle.edge_table.specs.Table.{no_edge}
+use Rattle.edge_table.specs.declared.table.Edge.{Edge}
+
+-- a number is one of a place's where the place stands there
+numbers-there : (p k n : ℕ) (xs : List ℕ) → IsAmong n (numbers_of p k xs) → (i : ℕ) × (n ≡ k + i) × (i < length xs) × (get_or xs i 0 ≡ p)
+numbers-there p k n [] h = absurd h
+numbers-there p k n (x ∷ xs) h =
+    let There : Type 0 = (i : ℕ) × (n ≡ k + i) × (i < length (x ∷ xs)) × (get_or (x ∷ xs) i 0 ≡ p) in
+    let later : IsAmong n (numbers_of p (k + 1) xs) → There = λ m. (
+    let rest = numbers-there p (k + 1) n xs m in
+    let is = rest.1 in
+    let inside = rest.2 in
+    (suc rest.0, omega arith, omega arith, rest.3)
+    ) in
+    let Case : Bool → Type 0 = λ b. eqb p x ≡ b → IsAmong n (cond b (k ∷ numbers_of p (k + 1) xs) (numbers_of p (k + 1) xs)) → There in
+    let case : Case (eqb p x) = elim (eqb p x) as Case [
+      | true ↦ λ t m. elim m [
+        | inl e ↦ (0, omega arith, omega arith, sym (eqb-true p x t))
+        | inr rest ↦ later rest
+      ]
+      | false ↦ λ _ m. later m
+    ] in
+    case refl h
+
+numbers-back : (p k i : ℕ) (xs : List ℕ) → i < length xs → get_or xs i 0 ≡ p → IsAmong (k + i) (numbers_of p k xs)
+numbers-back p k i [] inside is = absurd (omega arith)
+numbers-back p k zero (x ∷ xs) inside is =
+    let first : k + 0 ≡ k = omega arith in
+    rw (eq-eqb p x (sym is)) (inl first)
+numbers-back p k (suc i) (x ∷ xs) inside is =
+    let next : (k + 1) + i ≡ k + suc i = omega arith in
+    let later : IsAmong (k + suc i) (numbers_of p (k + 1) xs) = subst (λ n. IsAmong n (numbers_of p (k + 1) xs)) next (numbers-back p (k + 1) i xs (omega arith) is) in
+    elim (eqb p x) as (λ b. IsAmong (k + suc i) (cond b (k ∷ numbers_of p (k + 1) xs) (numbers_of p (k + 1) xs))) [ true ↦ inr later | false ↦ later ]
+
+-- so an edge is listed at a place where its end is the place
+pub listed : (end : Edge → ℕ) → end no_edge ≡ 0 → (edges : List Edge) (place number : ℕ) → IsAmong number (numbers_of place 0 (map end edges)) ↔ ((number < length edges) × (end (get_or edges number no_edge) ≡ place))
+listed end none edges place number =
+    let long = length-map edges end in (
+      λ h. (
+          let there = numbers-there place 0 number (map end edges) h in
+          let is : there.0 ≡ number = (let e = there.1 in omega arith) in
+          let inside = there.2 in
+          (omega arith, ap (λ n. end (get_or edges n no_edge)) (sym is) ∙ sym (read edges there.0) ∙ there.3)
+          ),
+      λ h. (
+          let inside = h.0 in
+          let from_zero : 0 + number ≡ number = omega arith in
+          subst (λ n. IsAmong n (numbers_of place 0 (map end edges))) from_zero (numbers-back place 0 number (map end edges) (omega arith) (read edges number ∙ h.1))
+          ),
+    )
+  where
+    read : (edges : List Edge) (i : ℕ) → get_or (map end edges) i 0 ≡ end (get_or edges i no_edge)
+    read [] i = sym none
+    read (e ∷ edges) zero = refl
+    read (e ∷ edges) (suc i) = read edges i
