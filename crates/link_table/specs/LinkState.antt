@@ -7,7 +7,7 @@ use Rattle.ingress_gateway.specs.Gate.{Gate, emptied, is_admitted}
 use Rattle.ingress_gateway.specs.Pending.{carried_count, message_count}
 use Rattle.link_table.specs.declared.piles.Envelope.{Envelope}
 use Rattle.link_table.specs.declared.piles.Pile.{Pile}
-use Rattle.link_table.specs.Piled.{ChangesPile, fewer, message_in, pile_at, stripped}
+use Rattle.link_table.specs.Piled.{ChangesPile, fewer, message_in, more, pile_at, stripped}
 
 -- whether it is open, how many messages were sent, the receiving gate, and the piles of copies by their numbers
 pub record LinkState : Type 0 where
@@ -27,6 +27,10 @@ pub record IsNewLink (l : LinkState) (s d : ℕ) : Type 0 where
 abbrev pub abandoned : LinkState → LinkState
 abandoned l = record l { is_open = false; piles = [] }
 
+-- the link after what was admitted went into a window
+abbrev pub cut : LinkState → LinkState
+cut l = record l { gate = emptied l.gate }
+
 -- the link as the node at its end leaves it when it removes the other
 abbrev pub closed : LinkState → LinkState
 closed l = record l { is_open = false; gate = record (emptied l.gate) { is_closed = true }; piles = [] }
@@ -36,12 +40,22 @@ pub record IsMoved (old new : LinkState) (number : ℕ) (pile : Option Pile) : T
   pub link : (new.is_open ≡ old.is_open) × (new.sent ≡ old.sent)
   pub piles : ChangesPile old.piles new.piles number pile
 
+-- a copy of the number was lost, or came again
+abbrev pub Loses : LinkState → LinkState → ℕ → Type 0
+Loses old new number = IsMoved old new number (fewer (pile_at old.piles number)) × (new.gate ≡ old.gate)
+
+abbrev pub Repeats : LinkState → LinkState → ℕ → Type 0
+Repeats old new number = IsMoved old new number (more (pile_at old.piles number)) × (new.gate ≡ old.gate)
+
 -- the message got the next number, and its first copy is there if the link is open
 pub record Sends (old new : LinkState) (message : Envelope) : Type 0 where
   pub link : (new.is_open ≡ old.is_open) × (new.gate ≡ old.gate)
   pub number : new.sent ≡ old.sent + 1
   pub opened : old.is_open ≡ true → ChangesPile old.piles new.piles old.sent (Some (record { copies = 1; message = Some message }))
   pub shut : old.is_open ≡ false → new.piles ≡ old.piles
+
+abbrev pub SendsTo : LinkState → LinkState → Actor → List Actor → Type 0
+SendsTo old new to refs = Sends old new (record { to = to; refs = refs })
 
 -- what the gate becomes by the message that comes to it, or by none
 abbrev pub GateAdmits : Gate → Gate → ℕ → Option Envelope → Type 0

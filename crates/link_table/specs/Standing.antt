@@ -1,16 +1,21 @@
 -- What a link stands for: what is true of it in a history.
-use Rattle.std.specs.Prelude.{◌≡◌, ◌==◌, ◌&&◌, not, if◌then◌else◌, nat_lt, slice_get, length, ℕ, Bool, false, List, Option, Some, None}
+use Rattle.std.specs.Prelude.{◌≡◌, ◌==◌, ◌&&◌, not, if◌then◌else◌, nat_lt, slice_get, length, ℕ, Bool, false}
+use Rattle.std.specs.Prelude.{List, ◌∷◌, Option, Some, None}
 use Rattle.std.specs.Option.{option_map}
+use Rattle.crgc_ids.specs.Actor.{Actor}
 use Rattle.history_model.specs.declared.events.Event.{Event}
 use Rattle.history_model.specs.declared.events.Event.TheVariants.{Admit, Crash, Lose, Remove, Repeat, Send, Window}
+use Rattle.history_model.specs.declared.records.Window as records
+use Rattle.history_model.specs.Cluster.{Cluster}
+use Rattle.history_model.specs.Legal.{IsLegal}
 use Rattle.history_model.specs.Live.{under_way}
 use Rattle.history_model.specs.Messages.{Message, copies, is_closed, sent, was_admitted}
 use Rattle.history_model.specs.State.{is_up}
-use Rattle.history_model.specs.Tells.{admitted_since, message_pairs, message_recipients}
+use Rattle.history_model.specs.Tells.{CountsMessages, admitted_since, message_pairs, message_recipients}
 use Rattle.ingress_gateway.specs.Gate.{is_admitted}
 use Rattle.link_table.specs.declared.piles.Envelope.{Envelope}
 use Rattle.link_table.specs.declared.piles.Pile.{Pile}
-use Rattle.link_table.specs.LinkState.{LinkState}
+use Rattle.link_table.specs.LinkState.{LinkState, SendsTo}
 use Rattle.link_table.specs.Piled.{kept_count, pile_at}
 
 -- d has not crashed and has not removed s: what is on the link from s to d can be admitted
@@ -43,6 +48,20 @@ pub record StandsFor (s d : ℕ) (h : List Event) (l : LinkState) : Type 0 where
   pub admitted : (k : ℕ) → is_admitted l.gate k ≡ was_admitted s d k h
   pub messages : l.gate.messages ≡ message_recipients (admitted_since s d h)
   pub carried : l.gate.carried ≡ message_pairs (admitted_since s d h)
+
+-- the link that stood for the history stands, as it is now, for the history with the event, if that is legal
+abbrev pub StandsAfter : Cluster → ℕ → ℕ → Event → List Event → LinkState → LinkState → Type 0
+StandsAfter cl s d e p old new = IsLegal cl (e ∷ p) → StandsFor s d p old → StandsFor s d (e ∷ p) new
+
+-- so the link on which a message was sent stands
+abbrev pub SendsAreStoodFor : Cluster → Type 0
+SendsAreStoodFor cl =
+    (f t : Actor) (refs : List Actor) (p : List Event) (old new : LinkState)
+    → SendsTo old new t refs → StandsAfter cl f.node t.node (Send f t refs) p old new
+
+-- the window is that of the link, and counts the messages that were admitted since the last one
+abbrev pub CountsSince : ℕ → ℕ → List Event → records.Window → Type 0
+CountsSince s d h w = (w.at ≡ d) × (w.from ≡ s) × CountsMessages w (admitted_since s d h)
 
 -- the event is of the link from s to d: it sends on it, moves what is there, cuts its window, or closes its end
 abbrev pub is_of_link : ℕ → ℕ → Event → Bool

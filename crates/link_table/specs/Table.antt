@@ -1,5 +1,6 @@
 -- The links between 16 nodes, from each to each other, as a list of 240.
-use Rattle.std.specs.Prelude.{◌≡◌, ◌≢◌, ◌+◌, ◌-◌, ◌*◌, ◌/◌, ◌%◌, ◌<◌, ◌==◌, ℕ, true, false, if◌then◌else◌, get_or, nat_lt, List, []}
+use Rattle.std.specs.Prelude.{◌≡◌, ◌≢◌, ◌+◌, ◌-◌, ◌*◌, ◌/◌, ◌%◌, ◌<◌, ◌==◌, ℕ, true, false, if◌then◌else◌, nat_lt}
+use Rattle.std.specs.Prelude.{List, [], get_or}
 use Rattle.link_table.specs.LinkState.{LinkState, abandoned}
 
 -- a link leads from one node to another

@@ -9,3 +9,6 @@ mod table;
 pub use link::Link;
 pub use piles::{Envelope, Pile};
 pub use table::LinkTable;
+
+#[cfg(test)]
+mod tests;

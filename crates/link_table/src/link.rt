@@ -1,10 +1,11 @@
 //! One link, from the node that sends on it to the node that admits from it.
-ghost use Rattle.std.specs.Prelude.{◌≡◌, ◌≢◌, ◌+◌, ◌<◌, ◌^◌, ℕ, [], false, true, IfNone, IfOk, IfSome, None, OnErr, OnOk, OnSome, length};
+ghost use Rattle.std.specs.Prelude.{◌≡◌, ◌≢◌, ◌+◌, ◌<◌, ◌^◌, ℕ, [], false, true, length};
+ghost use Rattle.std.specs.Prelude.{IfNone, IfOk, IfSome, None, OnErr, OnOk, OnSome};
 ghost use Rattle.std.specs.Option.{option_copied};
-ghost use Rattle.ingress_gateway.specs.Gate.{IsWindowOf, emptied, is_admitted};
+ghost use Rattle.ingress_gateway.specs.Gate.{IsWindowOf, is_admitted};
 ghost use Rattle.ingress_gateway.specs.Pending.{named_count};
-ghost use Rattle.link_table.specs.Piled.{IsLowest, copies_in, fewer, kept_count, message_in, more, pile_at};
-ghost use Rattle.link_table.specs.LinkState.{Admitted, FitsGate, IsMoved, IsNewLink, Sends, abandoned, closed};
+ghost use Rattle.link_table.specs.Piled.{IsLowest, copies_in, kept_count, message_in, pile_at};
+ghost use Rattle.link_table.specs.LinkState.{Admitted, FitsGate, IsNewLink, Loses, Repeats, SendsTo, abandoned, closed, cut};
 
 use crate::piles::{Envelope, Piles};
 use crgc_ids::{ActorId, NoMemory, NodeId, RefList};
@@ -56,7 +57,7 @@ impl Link {
     pub fn send(&mut self, to: ActorId, refs: RefList) -> Result<u32, NoMemory>
         requires { self.old.sent + 1 < 2 ^ 32 }
         ensures number { IfOk result (λ number. number ≡ self.old.sent) }
-        ensures ok { OnOk result (Sends self.old self.new (record { to = to; refs = refs })) }
+        ensures ok { OnOk result (SendsTo self.old self.new to refs) }
         ensures err { OnErr result (self.new ≡ self.old) }
         ensures open { OnErr result (self.old.is_open ≡ true) }
     {
@@ -74,8 +75,7 @@ impl Link {
     pub fn repeat(&mut self, number: u32)
         requires some { 0 < copies_in (pile_at self.old.piles number) }
         requires fits { copies_in (pile_at self.old.piles number) + 1 < 2 ^ 32 }
-        ensures moved { IsMoved self.old self.new number (more (pile_at self.old.piles number)) }
-        ensures gate { self.new.gate ≡ self.old.gate }
+        ensures { Repeats self.old self.new number }
     {
         self.piles.repeat(number);
     }
@@ -83,8 +83,7 @@ impl Link {
     /// One copy of a number that has some is lost. Logarithmic time in the numbers that have a copy.
     pub fn lose(&mut self, number: u32)
         requires { 0 < copies_in (pile_at self.old.piles number) }
-        ensures moved { IsMoved self.old self.new number (fewer (pile_at self.old.piles number)) }
-        ensures gate { self.new.gate ≡ self.old.gate }
+        ensures { Loses self.old self.new number }
     {
         self.piles.lose(number);
     }
@@ -119,7 +118,7 @@ impl Link {
     pub fn cut_window(&mut self) -> Option<Window>
         requires { self.old.is_open ≡ true }
         ensures some { IfSome result (λ w. IsWindowOf self.old.gate w) }
-        ensures after { OnSome result (self.new ≡ record self.old { gate = emptied self.old.gate }) }
+        ensures after { OnSome result (self.new ≡ cut self.old) }
         ensures none { IfNone result ((self.old.gate.messages ≡ []) × (self.new ≡ self.old)) }
         ensures admitted { OnSome result (0 < length self.old.gate.messages) }
     {

@@ -1,8 +1,9 @@
 //! The links between the nodes.
-ghost use Rattle.std.specs.Prelude.{◌≡◌, ◌≢◌, ◌+◌, ◌<◌, ◌^◌, ℕ, [], false, true, IfNone, IfOk, IfSome, OnErr, OnOk, OnSome, length};
-ghost use Rattle.ingress_gateway.specs.Gate.{IsWindowOf, emptied, is_admitted};
-ghost use Rattle.link_table.specs.LinkState.{Admitted, FitsGate, IsMoved, IsNewLink, Sends, abandoned, closed};
-ghost use Rattle.link_table.specs.Piled.{copies_in, fewer, message_in, more, pile_at};
+ghost use Rattle.std.specs.Prelude.{◌≡◌, ◌≢◌, ◌+◌, ◌<◌, ◌^◌, ℕ, [], false, true, length};
+ghost use Rattle.std.specs.Prelude.{IfNone, IfOk, IfSome, OnErr, OnOk, OnSome};
+ghost use Rattle.ingress_gateway.specs.Gate.{IsWindowOf, is_admitted};
+ghost use Rattle.link_table.specs.LinkState.{Admitted, FitsGate, IsNewLink, Loses, Repeats, SendsTo, abandoned, closed, cut};
+ghost use Rattle.link_table.specs.Piled.{copies_in, message_in, pile_at};
 ghost use Rattle.link_table.specs.Table.{IsLink, OthersStay, after_crash, end_of, link_at, place, source_of};
 
 use crate::link::Link;
@@ -57,7 +58,7 @@ impl LinkTable {
         requires apart { from ≢ to.node }
         requires fits { (link_at self.old from to.node).sent + 1 < 2 ^ 32 }
         ensures number { IfOk result (λ number. number ≡ (link_at self.old from to.node).sent) }
-        ensures ok { OnOk result (Sends (link_at self.old from to.node) (link_at self.new from to.node) (record { to = to; refs = refs })) }
+        ensures ok { OnOk result (SendsTo (link_at self.old from to.node) (link_at self.new from to.node) to refs) }
         ensures others { OthersStay self.old self.new from to.node }
         ensures err { OnErr result (link_at self.new from to.node ≡ link_at self.old from to.node) }
     {
@@ -69,8 +70,7 @@ impl LinkTable {
         requires apart { from ≢ at }
         requires some { 0 < copies_in (pile_at (link_at self.old from at).piles number) }
         requires fits { copies_in (pile_at (link_at self.old from at).piles number) + 1 < 2 ^ 32 }
-        ensures moved { IsMoved (link_at self.old from at) (link_at self.new from at) number (more (pile_at (link_at self.old from at).piles number)) }
-        ensures gate { (link_at self.new from at).gate ≡ (link_at self.old from at).gate }
+        ensures repeats { Repeats (link_at self.old from at) (link_at self.new from at) number }
         ensures others { OthersStay self.old self.new from at }
     {
         self.links[place(from, at)].repeat(number);
@@ -80,8 +80,7 @@ impl LinkTable {
     pub fn lose(&mut self, from: NodeId, at: NodeId, number: u32)
         requires apart { from ≢ at }
         requires some { 0 < copies_in (pile_at (link_at self.old from at).piles number) }
-        ensures moved { IsMoved (link_at self.old from at) (link_at self.new from at) number (fewer (pile_at (link_at self.old from at).piles number)) }
-        ensures gate { (link_at self.new from at).gate ≡ (link_at self.old from at).gate }
+        ensures loses { Loses (link_at self.old from at) (link_at self.new from at) number }
         ensures others { OthersStay self.old self.new from at }
     {
         self.links[place(from, at)].lose(number);
@@ -112,7 +111,7 @@ impl LinkTable {
         requires apart { from ≢ at }
         requires open { (link_at self.old from at).is_open ≡ true }
         ensures some { IfSome result (λ w. IsWindowOf (link_at self.old from at).gate w) }
-        ensures after { OnSome result (link_at self.new from at ≡ record (link_at self.old from at) { gate = emptied (link_at self.old from at).gate }) }
+        ensures after { OnSome result (link_at self.new from at ≡ cut (link_at self.old from at)) }
         ensures none { IfNone result (((link_at self.old from at).gate.messages ≡ []) × (link_at self.new from at ≡ link_at self.old from at)) }
         ensures admitted { OnSome result (0 < length (link_at self.old from at).gate.messages) }
         ensures others { OthersStay self.old self.new from at }
