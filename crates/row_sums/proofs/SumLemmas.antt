@@ -43,7 +43,8 @@ pub record IsSum {K X : Type 0} (below : K → K → Type 0) (same : K → K →
   pub rise : IsRising (λ r s. below (key r) (key s)) ys
   pub totals : (t : K) → total same key count t ys ≡ total same key count t xs
 
-below-at_most : {K : Type 0} (below : K → K → Type 0) (trans : (i j k : K) → below i j → below j k → below i k) (i j k : K) → below i j → AtMost below j k → below i k
+-- what is below a key is below those not below it
+pub below-at_most : {K : Type 0} (below : K → K → Type 0) (trans : (i j k : K) → below i j → below j k → below i k) (i j k : K) → below i j → AtMost below j k → below i k
 below-at_most below trans i j k h (inl e) = subst (below i) e h
 below-at_most below trans i j k h (inr g) = trans i j k h g
 
@@ -59,14 +60,14 @@ sorted-never_falls below key is_less order x (y ∷ ys) up =
 
 module _ {K X : Type 0} (same : K → K → Bool) (key : X → K) (count : X → ℕ) (limit : ℕ) (told : (j k : K) → Decides (same j k) (j ≡ k)) where
   -- two rows of one key count it as often as their sum
-  one_of_two : (t : K) (last next last' : X) → key last' ≡ key last → key last ≡ key next → count last' ≡ count last + count next → cond (same t (key last')) (count last') 0 ≡ cond (same t (key last)) (count last) 0 + cond (same t (key next)) (count next) 0
+  pub one_of_two : (t : K) (last next last' : X) → key last' ≡ key last → key last ≡ key next → count last' ≡ count last + count next → cond (same t (key last')) (count last') 0 ≡ cond (same t (key last)) (count last) 0 + cond (same t (key next)) (count next) 0
   one_of_two t last next last' stays one sum =
       let Split : K → K → Type 0 = λ j k. cond (same t j) (count last') 0 ≡ cond (same t (key last)) (count last) 0 + cond (same t k) (count next) 0 in
       let split : Split (key last) (key last) = elim (same t (key last)) as (λ v. cond v (count last') 0 ≡ cond v (count last) 0 + cond v (count next) 0) [ true ↦ sum | false ↦ omega arith ] in
       subst (λ j. Split j (key next)) (sym stays) (subst (Split (key last)) one split)
 
   -- two rows of one key have room in one
-  room : (last next : X) (xs : List X) → key last ≡ key next → ((t : K) → total same key count t (last ∷ next ∷ xs) < limit) → count last + count next < limit
+  pub room : (last next : X) (xs : List X) → key last ≡ key next → ((t : K) → total same key count t (last ∷ next ∷ xs) < limit) → count last + count next < limit
   room last next xs one fits =
       let f : X → ℕ = λ r. cond (same (key last) (key r)) (count r) 0 in
       let own : f last ≡ count last = ap (λ v. cond v (count last) 0) ((told (key last) (key last)).1 refl) in

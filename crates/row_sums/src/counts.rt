@@ -7,13 +7,14 @@ ghost use Rattle.row_sums.specs.Totals.{actor_total};
 
 use crgc_ids::{ActorCount, ActorCounts};
 
-/// The rows added up: those of one actor become one row, and each actor is counted as often as before. Time in
+/// The rows added up: they rise, those of one actor become one row, and each actor is counted as often as before. Time in
 /// proportion to n log n for n rows, without memory.
 pub fn sum_of_counts(rows: Vec<ActorCount>) -> ActorCounts
     requires stand { AllByRecursion (λ r. 0 < r.count) rows.items }
     requires fits { (a : Actor) → actor_total a rows.items < 2 ^ 32 }
-    ensures totals { (a : Actor) → actor_total a result ≡ actor_total a rows.items }
+    ensures rise { IsRising (λ r s. IsActorBelow r.actor s.actor) result }
     ensures stand { AllByRecursion (λ r. 0 < r.count) result }
+    ensures totals { (a : Actor) → actor_total a result ≡ actor_total a rows.items }
 {
     let mut rows = rows;
     add_up_counts(&mut rows);

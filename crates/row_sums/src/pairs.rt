@@ -7,13 +7,14 @@ ghost use Rattle.row_sums.specs.Totals.{pair_total};
 
 use crgc_ids::{PairCount, PairCounts};
 
-/// The rows added up: those of one pair become one row, and each pair is counted as often as before. Time in proportion
-/// to n log n for n rows, without memory.
+/// The rows added up: they rise, those of one pair become one row, and each pair is counted as often as before. Time in
+/// proportion to n log n for n rows, without memory.
 pub fn sum_of_pairs(rows: Vec<PairCount>) -> PairCounts
     requires stand { AllByRecursion (λ r. 0 < r.count) rows.items }
     requires fits { (b a : Actor) → pair_total b a rows.items < 2 ^ 32 }
-    ensures totals { (b a : Actor) → pair_total b a result ≡ pair_total b a rows.items }
+    ensures rise { IsRising (λ r s. IsPairBelow r.owner r.target s.owner s.target) result }
     ensures stand { AllByRecursion (λ r. 0 < r.count) result }
+    ensures totals { (b a : Actor) → pair_total b a result ≡ pair_total b a rows.items }
 {
     let mut rows = rows;
     add_up_pairs(&mut rows);

@@ -4,7 +4,8 @@ use Rattle.history_model.specs.Graph.{rising_actors}
 use Rattle.row_sums.specs.Totals.{actor_total, pair_total}
 use Rattle.crgc_ids.specs.declared.rising.PairCount.{PairCount}
 use Rattle.ingress_gateway.specs.Pending.{Pending, carried_count, message_count, named_count, names_in, pairs, recipients}
-use Rattle.ingress_gateway.proofs.KeepingLemmas.{carried-total, messages-total, ones-stand}
+use Rattle.row_sums.proofs.OnesLemmas.{ones-stand}
+use Rattle.ingress_gateway.proofs.KeepingLemmas.{carried-total, messages-total}
 use Rattle.ingress_gateway.proofs.WindowLemmas.{named-same}
 use Rattle.ingress_gateway.proofs.backlog.Backlog.into_sums.Goals as goal
 

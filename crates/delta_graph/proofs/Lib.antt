@@ -1,0 +1,5 @@
+pub mod FoldLemmas
+pub mod GatheredLemmas
+pub mod FitLemmas
+pub mod StateLemmas
+pub mod NameLemmas

@@ -1,0 +1,130 @@
+-- States that are sorted and added up.
+use Rattle.std.proofs.Common.{◌≡◌, ◌+◌, ◌<◌, ◌^◌, ◌&&◌, ℕ, Bool, true, false, cond, not, min, List, [], ◌∷◌, Ordering, refl, sym, ◌∙◌, ap, subst, inl, inr, arith}
+use Rattle.std.proofs.lemmas.Bool.{false≢true}
+use Rattle.std.proofs.lemmas.List.Sums.{sum_by-cons}
+use Rattle.std.specs.List.{filter}
+use Rattle.std.specs.Ordering.{MatchOrdering, is_lt}
+use Rattle.std.specs.Prelude.{Option, Some, unwrap_or}
+use Rattle.std.specs.declared.cmp.Ordering.TheVariants.{Equal, Greater, Less}
+use Rattle.crgc_ids.specs.Actor.{Actor, IsActorBelow, same_actor}
+use Rattle.crgc_ids.proofs.ActorLaws.{IsActorBelow-apart, actor_cases, same_actor-apart, same_actor-decides}
+use Rattle.crgc_ids.proofs.ActorOrder.{actor_cmp, actor_cmp-above, actor_cmp-below, actor_cmp-same, actor_cmp-tells}
+use Rattle.history_model.specs.declared.records.StateRow.{StateRow}
+use Rattle.history_model.specs.Facts.{Flags}
+use Rattle.history_model.specs.Ledgers.{received_total, row_flags, state_flags}
+use Rattle.row_sums.proofs.SumLemmas.{AtMost, one_of_two, room}
+use Rattle.delta_graph.proofs.FoldLemmas.{Folds, IsReading}
+
+-- ---- the order of actors
+
+-- of two actors in their order the first is not above the second
+pub actors-sorted : (a b : Actor) → is_lt (actor_cmp b a) ≡ false → AtMost IsActorBelow a b
+actors-sorted a b h =
+    let Case : Ordering → Type 0 = λ o. MatchOrdering o (IsActorBelow b a) (b ≡ a) (IsActorBelow a b) → is_lt o ≡ false → AtMost IsActorBelow a b in
+    let case : Case (actor_cmp b a) = elim (actor_cmp b a) as Case [
+      | Less ↦ λ _ t. absurd (false≢true (sym t))
+      | Equal ↦ λ same _. inl (sym same)
+      | Greater ↦ λ above _. inr above
+    ] in
+    case (actor_cmp-tells b a) h
+
+-- actors of which neither is below the other are one
+ties-same : (a b : Actor) → (not (is_lt (actor_cmp a b)) && not (is_lt (actor_cmp b a))) ≡ same_actor a b
+ties-same a b =
+    let Tie : Ordering → Ordering → Bool = λ o p. not (is_lt o) && not (is_lt p) in
+    elim (actor_cases a b) [
+      | inl below ↦ ap (λ o. Tie o (actor_cmp b a)) (actor_cmp-below a b below) ∙ sym (same_actor-apart a b (λ e. IsActorBelow-apart a (subst (IsActorBelow a) (sym e) below)))
+      | inr other ↦ elim other [
+        | inl same ↦ ap (λ o. Tie o (actor_cmp b a)) (actor_cmp-same a b same) ∙ ap (λ o. not (is_lt o)) (actor_cmp-same b a (sym same)) ∙ sym ((same_actor-decides a b).1 same)
+        | inr above ↦ ap (λ o. Tie o (actor_cmp b a)) (actor_cmp-above a b above) ∙ ap (λ o. not (is_lt o)) (actor_cmp-below b a above) ∙ sym (same_actor-apart a b (λ e. IsActorBelow-apart b (subst (IsActorBelow b) e above)))
+      ]
+    ]
+
+-- ---- flags
+
+-- an actor's flags are those of its own rows
+flags-filter : (a : Actor) (p : StateRow → Bool) → ((r : StateRow) → p r ≡ same_actor a r.actor) → (rows : List StateRow) → row_flags a (filter p rows) ≡ row_flags a rows
+flags-filter a p own [] = refl
+flags-filter a p own (r ∷ rows) =
+    let later = flags-filter a p own rows in
+    let Case : Bool → Type 0 = λ v. same_actor a r.actor ≡ v → row_flags a (cond v (r ∷ filter p rows) (filter p rows)) ≡ cond v (Some (unwrap_or (row_flags a rows) (state_flags r))) (row_flags a rows) in
+    let case : Case (same_actor a r.actor) = elim (same_actor a r.actor) as Case [
+      | true ↦ λ t. ap (λ v. cond v (Some (unwrap_or (row_flags a (filter p rows)) (state_flags r))) (row_flags a (filter p rows))) t ∙ ap (λ o. Some (unwrap_or o (state_flags r))) later
+      | false ↦ λ _. later
+    ] in
+    ap (λ v. row_flags a (cond v (r ∷ filter p rows) (filter p rows))) (own r) ∙ case refl
+
+-- a stable sort by actor leaves each actor's flags
+pub flags-sorted : (a : Actor) (rows sorted : List StateRow) → ((x : StateRow) → filter (λ y. not (is_lt (actor_cmp x.actor y.actor)) && not (is_lt (actor_cmp y.actor x.actor))) sorted ≡ filter (λ y. not (is_lt (actor_cmp x.actor y.actor)) && not (is_lt (actor_cmp y.actor x.actor))) rows) → row_flags a sorted ≡ row_flags a rows
+flags-sorted a rows sorted stable =
+    let x : StateRow = record { actor = a; received = 0; busy = false; root = false } in
+    let own : StateRow → Bool = λ y. not (is_lt (actor_cmp a y.actor)) && not (is_lt (actor_cmp y.actor a)) in
+    sym (flags-filter a own (λ r. ties-same a r.actor) sorted) ∙ ap (row_flags a) (stable x) ∙ flags-filter a own (λ r. ties-same a r.actor) rows
+
+-- ---- states that take in the next one
+
+-- what is read of an actor's states: the messages that they count, and the last flags
+abbrev pub read : Actor → List StateRow → ℕ × Option Flags
+read a rows = (received_total a rows, row_flags a rows)
+
+abbrev pub Fit : List StateRow → Type 0
+Fit rows = (a : Actor) → received_total a rows < 2 ^ 32
+
+abbrev counted : Actor → StateRow → ℕ
+counted a r = cond (same_actor a r.actor) r.received 0
+
+pub reads : IsReading read Fit
+reads = record {
+  first = λ a r xs ys same. (λ i. (
+    (sum_by-cons (counted a) r xs ∙ ap (λ p. counted a r + p.0) same ∙ sym (sum_by-cons (counted a) r ys)) i,
+    cond (same_actor a r.actor) (Some (unwrap_or (same i).1 (state_flags r))) (same i).1,
+  ));
+  rest = λ r rows fit a. (let whole = fit a in let split = sum_by-cons (counted a) r rows in omega arith);
+}
+
+abbrev merged : StateRow → StateRow → StateRow
+merged last next = record last { received = min (last.received + next.received) 4294967295; busy = next.busy; root = next.root }
+
+module _ (next last : StateRow) (one : last.actor ≡ next.actor) (rows : List StateRow) (fit : Fit (last ∷ next ∷ rows)) where
+  both_fit : last.received + next.received < 2 ^ 32
+  both_fit = room same_actor (λ (r : StateRow). r.actor) (λ (r : StateRow). r.received) (2 ^ 32) same_actor-decides last next rows one fit
+
+  merged-received : (a : Actor) → received_total a (merged last next ∷ rows) ≡ received_total a (last ∷ next ∷ rows)
+  merged-received a =
+      let fits = both_fit in
+      let sum : (merged last next).received ≡ last.received + next.received = omega arith in
+      let new = sum_by-cons (counted a) (merged last next) rows in
+      let old = sum_by-cons (counted a) last (next ∷ rows) in
+      let older = sum_by-cons (counted a) next rows in
+      let split = one_of_two same_actor (λ (r : StateRow). r.actor) (λ (r : StateRow). r.received) (2 ^ 32) same_actor-decides a last next (merged last next) refl one sum in
+      omega arith
+
+  merged-flags : (a : Actor) → row_flags a (merged last next ∷ rows) ≡ row_flags a (last ∷ next ∷ rows)
+  merged-flags a =
+      let found = row_flags a rows in
+      let Case : Bool → Type 0 = λ v. cond v (Some (unwrap_or found (state_flags next))) found
+      ≡ cond v (Some (unwrap_or (cond v (Some (unwrap_or found (state_flags next))) found) (state_flags last))) (cond v (Some (unwrap_or found (state_flags next))) found) in
+      let case : Case (same_actor a last.actor) = elim (same_actor a last.actor) as Case [ true ↦ refl | false ↦ refl ] in
+      subst (λ b. cond (same_actor a last.actor) (Some (unwrap_or found (state_flags next))) found
+      ≡ cond (same_actor a last.actor) (Some (unwrap_or (cond (same_actor a b) (Some (unwrap_or found (state_flags next))) found) (state_flags last))) (cond (same_actor a b) (Some (unwrap_or found (state_flags next))) found)) one case
+
+-- a state takes in the next one of its actor
+pub folds : (next last : StateRow) (b : Bool) (next' last' : StateRow) → b ≡ same_actor last.actor next.actor → next' ≡ next → last' ≡ cond b (merged last next) last → Folds same_actor (λ r. r.actor) read Fit next last b next' last'
+folds next last true next' last' tells passes is =
+    let one : last.actor ≡ next.actor = (same_actor-decides last.actor next.actor).0 (sym tells) in
+    record {
+      tells = tells;
+      passes = passes;
+      stays = ap (λ r. r.actor) is;
+      leaves = λ e. absurd (false≢true (sym e));
+      fits = λ _ rows fit a. subst (λ r. received_total a (r ∷ rows) < 2 ^ 32) (sym is) (subst (λ n. n < 2 ^ 32) (sym (merged-received next last one rows fit a)) (fit a));
+      reads = λ _ rows fit a. subst (λ r. read a (r ∷ rows) ≡ read a (last ∷ next ∷ rows)) (sym is) (λ i. (merged-received next last one rows fit a i, merged-flags next last one rows fit a i));
+    }
+folds next last false next' last' tells passes is = record {
+  tells = tells;
+  passes = passes;
+  stays = ap (λ r. r.actor) is;
+  leaves = λ _. is;
+  fits = λ e. absurd (false≢true e);
+  reads = λ e. absurd (false≢true e);
+}

@@ -1,0 +1,66 @@
+//! The actors that a Delta names.
+ghost use Rattle.std.specs.Prelude.{◌≡◌, ◌++◌, IfOk, OnOk, length, map};
+ghost use Rattle.history_model.specs.Graph.{rising_actors};
+ghost use Rattle.history_model.specs.Ledgers.{delta_ledger, ledger_names, pair_names};
+
+use crgc_ids::{ActorCount, ActorId, NoMemory, PairCount};
+use history_model::{Delta, StateRow};
+use std::alloc::Global;
+
+/// How many different actors the rows of a Delta name. Time in proportion to n log n for n rows.
+pub fn named_in(alloc: Global, delta: &Delta) -> Result<usize, NoMemory>
+    ensures { IfOk result (λ n. n ≡ length (rising_actors (ledger_names (delta_ledger delta.now)))) }
+{
+    let mut names = Vec::new(alloc);
+    push_states(&mut names, delta.states.as_slice())?;
+    push_counts(&mut names, delta.sent.as_slice())?;
+    push_pairs(&mut names, delta.created.as_slice())?;
+    push_pairs(&mut names, delta.released.as_slice())?;
+    Ok(count_different(names))
+}
+
+/// How many different actors the list has.
+fn count_different(names: Vec<ActorId>) -> usize
+    ensures { result ≡ length (rising_actors names.items) }
+{
+    let mut names = names;
+    names.sort_unstable();
+    names.dedup();
+    names.len()
+}
+
+/// The actors of the states come last.
+fn push_states(names: &mut Vec<ActorId>, rows: &[StateRow]) -> Result<(), NoMemory>
+    ensures { OnOk result (names.new.items ≡ names.old.items ++ map (λ r. r.actor) rows.now) }
+{
+    for row in rows {
+        if names.push(row.actor).is_err() {
+            return Err(NoMemory);
+        }
+    }
+    Ok(())
+}
+
+/// The actors of the rows come last.
+fn push_counts(names: &mut Vec<ActorId>, rows: &[ActorCount]) -> Result<(), NoMemory>
+    ensures { OnOk result (names.new.items ≡ names.old.items ++ map (λ r. r.actor) rows.now) }
+{
+    for row in rows {
+        if names.push(row.actor).is_err() {
+            return Err(NoMemory);
+        }
+    }
+    Ok(())
+}
+
+/// The owner and the target of each row come last.
+fn push_pairs(names: &mut Vec<ActorId>, rows: &[PairCount]) -> Result<(), NoMemory>
+    ensures { OnOk result (names.new.items ≡ names.old.items ++ pair_names rows.now) }
+{
+    for row in rows {
+        if names.push(row.owner).is_err() || names.push(row.target).is_err() {
+            return Err(NoMemory);
+        }
+    }
+    Ok(())
+}

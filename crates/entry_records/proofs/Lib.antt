@@ -1,0 +1,4 @@
+pub mod KeepingLemmas
+pub mod CountLemmas
+pub mod EntryLemmas
+pub mod LogLemmas

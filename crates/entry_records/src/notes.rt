@@ -1,0 +1,178 @@
+//! What an actor noted since its last flush.
+ghost use Rattle.std.specs.Prelude.{◌≡◌, ◌+◌, ◌-◌, ◌<◌, ◌≤◌, ◌^◌, ◌++◌, [], ◌∷◌, IfOk, OnErr, OnOk, count_by, length, map, vec_capacity, vec_len};
+ghost use Rattle.crgc_ids.specs.Actor.{Actor, same_actor};
+ghost use Rattle.history_model.specs.Facts.{flagged};
+ghost use Rattle.history_model.specs.Ledgers.{IsInOrder, entry_ledger};
+ghost use Rattle.history_model.specs.Tells.{TellsEntry};
+ghost use Rattle.entry_records.specs.Unflushed.{actor_count, facts_noted, is_nothing, nothing_unflushed, pair_count};
+
+use crgc_ids::{ActorCount, ActorId, NoMemory, PairCount};
+use history_model::Entry;
+use row_sums::{sum_of_counts, sum_of_pairs};
+use std::alloc::Global;
+use std::marker::Model;
+
+/// What an actor noted, as rows that count one each, so that adding them up takes no memory. Contracts see how many
+/// messages it took, and the lists of the actors and pairs that the rows count.
+#[derive(Drop)]
+pub struct Notes {
+    received: u32,
+    sent: Vec<ActorCount>,
+    created: Vec<PairCount>,
+    released: Vec<ActorCount>,
+}
+
+impl Model for Notes {
+    ghost use Rattle.entry_records.specs.Keeping.{KeepNotes};
+    ghost use Rattle.entry_records.specs.Unflushed.{Unflushed, actors_in, pairs_in};
+
+    ghost Value = { Unflushed };
+
+    ghost view = { λ n. record { received = n.received; sent = actors_in n.sent.items; created = pairs_in n.created.items; released = actors_in n.released.items } };
+
+    ghost invariant = { λ n. KeepNotes n.sent.items n.created.items n.released.items };
+}
+
+impl Notes {
+    /// Nothing is noted.
+    pub fn new(alloc: Global) -> Notes
+        ensures { result ≡ nothing_unflushed }
+    {
+        Notes {
+            received: 0,
+            sent: Vec::new(alloc),
+            created: Vec::new(alloc),
+            released: Vec::new(alloc),
+        }
+    }
+
+    /// One message more was taken.
+    pub fn add_received(&mut self)
+        requires { self.old.received + 1 < 2 ^ 32 }
+        ensures { self.new ≡ record self.old { received = self.old.received + 1 } }
+    {
+        self.received += 1;
+    }
+
+    /// A message was sent to the actor with these references; after `NoMemory` all is as before.
+    pub fn add_sent(&mut self, to: ActorId, refs: &[ActorId]) -> Result<(), NoMemory>
+        requires sent { actor_count to self.old.sent + 1 < 2 ^ 32 }
+        requires created { (a : Actor) → pair_count to a self.old.created + count_by (same_actor a) refs.now < 2 ^ 32 }
+        ensures ok { OnOk result (self.new ≡ record self.old { sent = self.old.sent ++ to ∷ []; created = self.old.created ++ map (λ a. (to, a)) refs.now }) }
+        ensures err { OnErr result (self.new ≡ self.old) }
+    {
+        if self.sent.reserve(1).is_err() || self.created.reserve(refs.len()).is_err() {
+            return Err(NoMemory);
+        }
+        self.sent.push_reserved(ActorCount {
+            actor: to,
+            count: 1,
+        });
+        put_pairs(&mut self.created, to, refs);
+        Ok(())
+    }
+
+    /// A reference to the target was made for the owner; after `NoMemory` all is as before.
+    pub fn add_created(&mut self, owner: ActorId, target: ActorId) -> Result<(), NoMemory>
+        requires { pair_count owner target self.old.created + 1 < 2 ^ 32 }
+        ensures ok { OnOk result (self.new ≡ record self.old { created = self.old.created ++ (owner, target) ∷ [] }) }
+        ensures err { OnErr result (self.new ≡ self.old) }
+    {
+        let row = PairCount {
+            owner,
+            target,
+            count: 1,
+        };
+        match self.created.push(row) {
+            Ok(()) => Ok(()),
+            Err(_) => Err(NoMemory),
+        }
+    }
+
+    /// A reference to the target was given up; after `NoMemory` all is as before.
+    pub fn add_released(&mut self, target: ActorId) -> Result<(), NoMemory>
+        requires { actor_count target self.old.released + 1 < 2 ^ 32 }
+        ensures ok { OnOk result (self.new ≡ record self.old { released = self.old.released ++ target ∷ [] }) }
+        ensures err { OnErr result (self.new ≡ self.old) }
+    {
+        let row = ActorCount {
+            actor: target,
+            count: 1,
+        };
+        match self.released.push(row) {
+            Ok(()) => Ok(()),
+            Err(_) => Err(NoMemory),
+        }
+    }
+
+    /// Whether nothing is noted.
+    pub fn is_blank(&self) -> bool
+        ensures { result ≡ is_nothing self.now }
+    {
+        let none_sent = self.sent.as_slice().is_empty();
+        let none_created = self.created.as_slice().is_empty();
+        let none_released = self.released.as_slice().is_empty();
+        self.received == 0 && none_sent && none_created && none_released
+    }
+
+    /// Equal notes. Linear time.
+    pub fn copy(&self) -> Result<Notes, NoMemory>
+        ensures { IfOk result (λ n. n ≡ self.now) }
+    {
+        let sent = copy_rows(&self.sent)?;
+        let created = copy_rows(&self.created)?;
+        let released = copy_rows(&self.released)?;
+        Ok(Notes {
+            received: self.received,
+            sent,
+            created,
+            released,
+        })
+    }
+
+    /// The entry that tells what the actor noted, and these flags. Time in proportion to n log n for n facts, without
+    /// memory.
+    pub fn into_entry(self, actor: ActorId, busy: bool, root: bool) -> Entry
+        ensures tells { TellsEntry actor result (flagged actor (record { busy = busy; root = root }) ∷ facts_noted actor self) }
+        ensures ordered { IsInOrder (entry_ledger result) }
+    {
+        let received = self.received;
+        let created = sum_of_pairs(self.created);
+        let sent = sum_of_counts(self.sent);
+        let released = sum_of_counts(self.released);
+        Entry {
+            actor,
+            received,
+            busy,
+            root,
+            created,
+            sent,
+            released,
+        }
+    }
+}
+
+/// A row for each reference to a target that is made for the owner comes last. There is room for them, so it takes no
+/// memory.
+fn put_pairs(rows: &mut Vec<PairCount>, owner: ActorId, targets: &[ActorId])
+    requires { vec_len rows.old + length targets.now ≤ vec_capacity rows.old }
+    ensures { rows.new.items ≡ rows.old.items ++ map (λ a. record { owner = owner; target = a; count = 1 }) targets.now }
+{
+    for target in targets {
+        rows.push_reserved(PairCount {
+            owner,
+            target: *target,
+            count: 1,
+        });
+    }
+}
+
+/// An equal vector.
+fn copy_rows<T: Copy>(rows: &Vec<T>) -> Result<Vec<T>, NoMemory>
+    ensures { IfOk result (λ v. v.items ≡ rows.now.items) }
+{
+    match Vec::from_slice(*rows.allocator(), rows.as_slice()) {
+        Ok(copied) => Ok(copied),
+        Err(_) => Err(NoMemory),
+    }
+}
