@@ -6,8 +6,9 @@ use Rattle.std.specs.List.{AllByRecursion}
 use Rattle.std.specs.List.Retain.{DedupsAll, DedupsFrom}
 use Rattle.std.specs.List.Sorted.{IsSortedBy}
 use Rattle.crgc_ids.specs.Rising.{IsRising}
+use Rattle.crgc_ids.proofs.KeyOrders.{IsKeyOrder}
 use Rattle.crgc_ids.proofs.MembersLaws.{all-implied}
-use Rattle.row_sums.proofs.SumLemmas.{AtMost, IsKeyOrder, NeverFalls, below-at_most, sorted-never_falls}
+use Rattle.row_sums.proofs.SumLemmas.{AtMost, NeverFalls, below-at_most, sorted-never_falls}
 
 -- what is read of rows, for a key: of a row and others it depends on the row and what is read of the others. The rows may
 -- have to fit, and so do the rows after the first

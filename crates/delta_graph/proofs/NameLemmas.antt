@@ -1,15 +1,14 @@
 -- Names that are sorted, each kept once, and rows that count alike: how many different actors there are.
 use Rattle.std.proofs.Common.{◌≡◌, ◌||◌, Bool, true, false, cond, List, [], ◌∷◌, length, refl, sym, ◌∙◌, ap}
-use Rattle.std.proofs.lemmas.Bool.{false≢true}
 use Rattle.std.proofs.lemmas.List.Sorted.{list_any-IsPermutation}
 use Rattle.std.specs.Bool.{⊤}
 use Rattle.std.specs.List.{dedup, dedup_from, list_any}
 use Rattle.std.specs.List.Retain.{DedupsAll, DedupsFrom}
 use Rattle.std.specs.List.Sorted.{IsPermutation, IsSorted}
 use Rattle.crgc_ids.specs.Actor.{Actor, IsActorBelow, same_actor}
-use Rattle.crgc_ids.specs.Members.{IsAmong}
 use Rattle.crgc_ids.proofs.ActorLaws.{IsActorBelow-apart, IsActorBelow-trans, same_actor-decides}
 use Rattle.crgc_ids.proofs.ActorOrder.{actor_cmp}
+use Rattle.crgc_ids.proofs.KeyOrders.{actor_order}
 use Rattle.crgc_ids.proofs.RisingLaws.{rising-same}
 use Rattle.history_model.specs.Graph.{rising_actors}
 use Rattle.history_model.specs.Ledgers.{CountAlike, CountFromOne, Ledger, ledger_counts, ledger_names}
@@ -17,8 +16,7 @@ use Rattle.history_model.proofs.Basics.{same_actor-sym}
 use Rattle.history_model.proofs.RisingActors.{among-decides, rising-among, rising_actors-rise, rising_actors-same}
 use Rattle.history_model.proofs.TellsCounts.{alike-back}
 use Rattle.history_model.proofs.TellsNames.{named-alike, rows-named}
-use Rattle.row_sums.proofs.RowLemmas.{actor_order}
-use Rattle.delta_graph.proofs.FoldLemmas.{Folds, IsFold, IsReading, is_fold}
+use Rattle.delta_graph.proofs.FoldLemmas.{Folds, IsReading, is_fold}
 use Rattle.delta_graph.proofs.StateLemmas.{actors-sorted}
 
 -- ---- sorted names, each kept once

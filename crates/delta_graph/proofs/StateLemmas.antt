@@ -1,17 +1,17 @@
 -- States that are sorted and added up.
-use Rattle.std.proofs.Common.{◌≡◌, ◌⊎◌, ◌+◌, ◌<◌, ◌^◌, ◌&&◌, ℕ, Bool, true, false, cond, not, min, List, [], ◌∷◌, Ordering, refl, sym, ◌∙◌, ap, subst, inl, inr, arith}
+use Rattle.std.proofs.Common.{◌≡◌, ◌+◌, ◌<◌, ◌^◌, ◌&&◌, ℕ, Bool, true, false, cond, not, min, List, [], ◌∷◌, Ordering, refl, sym, ◌∙◌, ap, subst, inl, inr, arith}
 use Rattle.std.proofs.lemmas.Bool.{false≢true}
 use Rattle.std.proofs.lemmas.List.Sums.{sum_by-cons}
 use Rattle.std.specs.List.{filter}
 use Rattle.std.specs.Ordering.{MatchOrdering, is_lt}
-use Rattle.std.specs.Prelude.{Option, Some, None, unwrap_or}
+use Rattle.std.specs.Prelude.{Option, Some, unwrap_or}
 use Rattle.std.specs.declared.cmp.Ordering.TheVariants.{Equal, Greater, Less}
 use Rattle.crgc_ids.specs.Actor.{Actor, IsActorBelow, same_actor}
 use Rattle.crgc_ids.proofs.ActorLaws.{IsActorBelow-apart, actor_cases, same_actor-apart, same_actor-decides}
 use Rattle.crgc_ids.proofs.ActorOrder.{actor_cmp, actor_cmp-above, actor_cmp-below, actor_cmp-same, actor_cmp-tells}
 use Rattle.history_model.specs.declared.records.StateRow.{StateRow}
 use Rattle.history_model.specs.Facts.{Flags}
-use Rattle.history_model.specs.Ledgers.{received_total, row_flags}
+use Rattle.history_model.specs.Ledgers.{received_total, row_flags, state_flags}
 use Rattle.row_sums.proofs.SumLemmas.{AtMost, one_of_two, room}
 use Rattle.delta_graph.proofs.FoldLemmas.{Folds, IsReading}
 
@@ -42,17 +42,14 @@ ties-same a b =
 
 -- ---- flags
 
-abbrev flags_of : StateRow → Flags
-flags_of r = record { busy = r.busy; root = r.root }
-
 -- an actor's flags are those of its own rows
 flags-filter : (a : Actor) (p : StateRow → Bool) → ((r : StateRow) → p r ≡ same_actor a r.actor) → (rows : List StateRow) → row_flags a (filter p rows) ≡ row_flags a rows
 flags-filter a p own [] = refl
 flags-filter a p own (r ∷ rows) =
     let later = flags-filter a p own rows in
-    let Case : Bool → Type 0 = λ v. same_actor a r.actor ≡ v → row_flags a (cond v (r ∷ filter p rows) (filter p rows)) ≡ cond v (Some (unwrap_or (row_flags a rows) (flags_of r))) (row_flags a rows) in
+    let Case : Bool → Type 0 = λ v. same_actor a r.actor ≡ v → row_flags a (cond v (r ∷ filter p rows) (filter p rows)) ≡ cond v (Some (unwrap_or (row_flags a rows) (state_flags r))) (row_flags a rows) in
     let case : Case (same_actor a r.actor) = elim (same_actor a r.actor) as Case [
-      | true ↦ λ t. ap (λ v. cond v (Some (unwrap_or (row_flags a (filter p rows)) (flags_of r))) (row_flags a (filter p rows))) t ∙ ap (λ o. Some (unwrap_or o (flags_of r))) later
+      | true ↦ λ t. ap (λ v. cond v (Some (unwrap_or (row_flags a (filter p rows)) (state_flags r))) (row_flags a (filter p rows))) t ∙ ap (λ o. Some (unwrap_or o (state_flags r))) later
       | false ↦ λ _. later
     ] in
     ap (λ v. row_flags a (cond v (r ∷ filter p rows) (filter p rows))) (own r) ∙ case refl
@@ -80,7 +77,7 @@ pub reads : IsReading read Fit
 reads = record {
   first = λ a r xs ys same. (λ i. (
     (sum_by-cons (counted a) r xs ∙ ap (λ p. counted a r + p.0) same ∙ sym (sum_by-cons (counted a) r ys)) i,
-    cond (same_actor a r.actor) (Some (unwrap_or (same i).1 (flags_of r))) (same i).1,
+    cond (same_actor a r.actor) (Some (unwrap_or (same i).1 (state_flags r))) (same i).1,
   ));
   rest = λ r rows fit a. (let whole = fit a in let split = sum_by-cons (counted a) r rows in omega arith);
 }
@@ -90,7 +87,7 @@ merged last next = record last { received = min (last.received + next.received) 
 
 module _ (next last : StateRow) (one : last.actor ≡ next.actor) (rows : List StateRow) (fit : Fit (last ∷ next ∷ rows)) where
   both_fit : last.received + next.received < 2 ^ 32
-  both_fit = room same_actor (λ (r : StateRow). r.actor) (λ (r : StateRow). r.received) same_actor-decides last next rows one fit
+  both_fit = room same_actor (λ (r : StateRow). r.actor) (λ (r : StateRow). r.received) (2 ^ 32) same_actor-decides last next rows one fit
 
   merged-received : (a : Actor) → received_total a (merged last next ∷ rows) ≡ received_total a (last ∷ next ∷ rows)
   merged-received a =
@@ -99,17 +96,17 @@ module _ (next last : StateRow) (one : last.actor ≡ next.actor) (rows : List S
       let new = sum_by-cons (counted a) (merged last next) rows in
       let old = sum_by-cons (counted a) last (next ∷ rows) in
       let older = sum_by-cons (counted a) next rows in
-      let split = one_of_two same_actor (λ (r : StateRow). r.actor) (λ (r : StateRow). r.received) same_actor-decides a last next (merged last next) refl one sum in
+      let split = one_of_two same_actor (λ (r : StateRow). r.actor) (λ (r : StateRow). r.received) (2 ^ 32) same_actor-decides a last next (merged last next) refl one sum in
       omega arith
 
   merged-flags : (a : Actor) → row_flags a (merged last next ∷ rows) ≡ row_flags a (last ∷ next ∷ rows)
   merged-flags a =
       let found = row_flags a rows in
-      let Case : Bool → Type 0 = λ v. cond v (Some (unwrap_or found (flags_of next))) found
-      ≡ cond v (Some (unwrap_or (cond v (Some (unwrap_or found (flags_of next))) found) (flags_of last))) (cond v (Some (unwrap_or found (flags_of next))) found) in
+      let Case : Bool → Type 0 = λ v. cond v (Some (unwrap_or found (state_flags next))) found
+      ≡ cond v (Some (unwrap_or (cond v (Some (unwrap_or found (state_flags next))) found) (state_flags last))) (cond v (Some (unwrap_or found (state_flags next))) found) in
       let case : Case (same_actor a last.actor) = elim (same_actor a last.actor) as Case [ true ↦ refl | false ↦ refl ] in
-      subst (λ b. cond (same_actor a last.actor) (Some (unwrap_or found (flags_of next))) found
-      ≡ cond (same_actor a last.actor) (Some (unwrap_or (cond (same_actor a b) (Some (unwrap_or found (flags_of next))) found) (flags_of last))) (cond (same_actor a b) (Some (unwrap_or found (flags_of next))) found)) one case
+      subst (λ b. cond (same_actor a last.actor) (Some (unwrap_or found (state_flags next))) found
+      ≡ cond (same_actor a last.actor) (Some (unwrap_or (cond (same_actor a b) (Some (unwrap_or found (state_flags next))) found) (state_flags last))) (cond (same_actor a b) (Some (unwrap_or found (state_flags next))) found)) one case
 
 -- a state takes in the next one of its actor
 pub folds : (next last : StateRow) (b : Bool) (next' last' : StateRow) → b ≡ same_actor last.actor next.actor → next' ≡ next → last' ≡ cond b (merged last next) last → Folds same_actor (λ r. r.actor) read Fit next last b next' last'

@@ -13,7 +13,7 @@ use Rattle.history_model.proofs.Basics.{same_actor-sym}
 use Rattle.history_model.proofs.FoldSumsFlags.{last_flags-append, newer}
 use Rattle.history_model.proofs.Lists.{tally-append}
 use Rattle.history_model.proofs.TellsCounts.{alike-back, alike-both, alike-same, alike-then, both, facts-both}
-use Rattle.entry_records.specs.Log.{IsLogOf, IsNotedBy, Log, log_with}
+use Rattle.entry_records.specs.Log.{IsLogOf, MayNote, Log, log_with}
 use Rattle.entry_records.proofs.KeepingLemmas.{either-same}
 use Rattle.entry_records.specs.Unflushed.{Unflushed, actor_count, facts_noted, pair_count, with_fact}
 
@@ -143,7 +143,7 @@ module _ (a : Actor) (n : Unflushed) where
 count-push : {X : Type 0} (p q : X → Bool) (xs : List X) (x : X) → p x ≡ q x → count_by p (xs ++ x ∷ []) ≡ count_by p xs + cond (q x) 1 0
 count-push p q xs x same = sum_by_push (λ y. cond (p y) 1 0) xs x ∙ ap (λ v. count_by p xs + cond v 1 0) same
 
-counted-more : (a : Actor) (f : Fact) (n : Unflushed) → IsNotedBy a f → CountAlike (noted_counts a (with_fact f n)) (both (noted_counts a n) (fact_counts (f ∷ [])))
+counted-more : (a : Actor) (f : Fact) (n : Unflushed) → MayNote a f → CountAlike (noted_counts a (with_fact f n)) (both (noted_counts a n) (fact_counts (f ∷ [])))
 counted-more a (facts.received b) n own = record {
   received = λ x. (
       let Case : Bool → Type 0 = λ v. cond v (n.received + 1) 0 ≡ cond v n.received 0 + cond v 1 0 in
@@ -190,7 +190,7 @@ counted l known is =
     alike-then (noted_counts l.actor l.noted) (fact_counts own) (fact_counts known) (alike-back (fact_counts own) (noted_counts l.actor l.noted) (facts-counted l.actor l.noted)) is
 
 -- a log that counts what facts say goes on to do so with one fact more
-pub log-next_fact : (known : List Fact) (f : Fact) (l : Log) → IsLogOf known l → IsNotedBy l.actor f → IsLogOf (known ++ f ∷ []) (log_with (f ∷ []) l)
+pub log-next_fact : (known : List Fact) (f : Fact) (l : Log) → IsLogOf known l → MayNote l.actor f → IsLogOf (known ++ f ∷ []) (log_with (f ∷ []) l)
 log-next_fact known f l is own =
     let a = l.actor in
     let n = l.noted in

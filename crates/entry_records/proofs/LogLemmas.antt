@@ -25,7 +25,7 @@ use Rattle.history_model.proofs.FoldSumsNotes.{notes-kinds}
 use Rattle.history_model.proofs.TellsBulletins.{ledger-same}
 use Rattle.history_model.proofs.TellsCounts.{alike-back, alike-both, alike-same, alike-then, both, facts-both}
 use Rattle.history_model.proofs.TellsNames.{facts-named, named-alike}
-use Rattle.entry_records.specs.Log.{IsEntryOf, IsLogAt, IsLogOf, IsNotedBy, Log, log_facts, log_with, may_flush}
+use Rattle.entry_records.specs.Log.{IsEntryOf, IsLogAt, IsLogOf, MayNote, Log, log_facts, log_with, may_flush}
 use Rattle.entry_records.specs.Unflushed.{Unflushed, facts_noted, is_nothing, with_facts}
 use Rattle.entry_records.proofs.CountLemmas.{log-next_fact}
 use Rattle.entry_records.proofs.EntryLemmas.{own_row}
@@ -38,7 +38,7 @@ with-references to (a ∷ refs) n =
     ∙ (λ i. record n { created = append_assoc n.created ((to, a) ∷ []) (map (λ b. (to, b)) refs) i })
 
 -- a log that counts what facts say goes on to do so with these facts more
-pub log-facts : (known more : List Fact) (l : Log) → IsLogOf known l → AllByRecursion (IsNotedBy l.actor) more → IsLogOf (known ++ more) (log_with more l)
+pub log-facts : (known more : List Fact) (l : Log) → IsLogOf known l → AllByRecursion (MayNote l.actor) more → IsLogOf (known ++ more) (log_with more l)
 log-facts known [] l is own = subst (λ facts. IsLogOf facts l) (sym (append-nil known)) is
 log-facts known (f ∷ more) l is own =
     let later = log-facts (known ++ f ∷ []) more (log_with (f ∷ []) l) (log-next_fact known f l is own.0) own.1 in
@@ -134,20 +134,20 @@ entry-one l flags e f first second =
 -- ---- the log of an actor in a history
 
 -- what an actor notes it may note
-own-facts : (a : Actor) (ns : List Note) → ((x : Note) → IsAmong x ns → IsNotedBy x.by x.fact) → AllByRecursion (IsNotedBy a) (facts_by a ns)
+own-facts : (a : Actor) (ns : List Note) → ((x : Note) → IsAmong x ns → MayNote x.by x.fact) → AllByRecursion (MayNote a) (facts_by a ns)
 own-facts a [] own = tt
 own-facts a (n ∷ ns) own =
     let later = own-facts a ns (λ x m. own x (inr m)) in
     let first = own n (inl refl) in
-    let Case : Bool → Type 0 = λ v. same_actor n.by a ≡ v → AllByRecursion (IsNotedBy a) (cond v (n.fact ∷ facts_by a ns) (facts_by a ns)) in
+    let Case : Bool → Type 0 = λ v. same_actor n.by a ≡ v → AllByRecursion (MayNote a) (cond v (n.fact ∷ facts_by a ns) (facts_by a ns)) in
     let case : Case (same_actor n.by a) = elim (same_actor n.by a) as Case [
-      | true ↦ λ t. (subst (λ b. IsNotedBy b n.fact) (same_actor-equal n.by a t) first, later)
+      | true ↦ λ t. (subst (λ b. MayNote b n.fact) (same_actor-equal n.by a t) first, later)
       | false ↦ λ _. later
     ] in
     case refl
 
-noted-own : (cl : Cluster) (e : Event) (p : List Event) (x : Note) → IsAmong x (notes cl e p) → IsNotedBy x.by x.fact
-noted-own cl e p = notes-kinds (λ x. IsNotedBy x.by x.fact) (λ _ _. tt) (λ _ _ _. tt) (λ _. refl) (λ _ _. refl) cl e p
+noted-own : (cl : Cluster) (e : Event) (p : List Event) (x : Note) → IsAmong x (notes cl e p) → MayNote x.by x.fact
+noted-own cl e p = notes-kinds (λ x. MayNote x.by x.fact) (λ _ _. tt) (λ _ _ _. tt) (λ _. refl) (λ _ _. refl) cl e p
 
 -- an event that is no flush of a leaves the flags of its last flush
 flags-kept : (a : Actor) (e : Event) (p : List Event) → is_flush_of a e ≡ false → flushed_flags a (e ∷ p) ≡ flushed_flags a p

@@ -56,12 +56,12 @@ IsLogOf facts l = CountAlike (fact_counts (log_facts l)) (fact_counts facts)
 -- ---- the log of a history
 
 -- the actor may note the fact in its log: that a message was taken or a reference given up is noted by whoever did so
-abbrev pub IsNotedBy : Actor → Fact → Type 0
-IsNotedBy a (received b) = b ≡ a
-IsNotedBy a (sent_to b) = Unit {0}
-IsNotedBy a (created b c) = Unit {0}
-IsNotedBy a (released b c) = b ≡ a
-IsNotedBy a (flagged b flags) = ⊥
+abbrev pub MayNote : Actor → Fact → Type 0
+MayNote a (received b) = b ≡ a
+MayNote a (sent_to b) = Unit {0}
+MayNote a (created b c) = Unit {0}
+MayNote a (released b c) = b ≡ a
+MayNote a (flagged b flags) = ⊥
 
 -- the log is that of its actor in the history: it counts what the actor noted since its last flush, and has the flags of
 -- that flush

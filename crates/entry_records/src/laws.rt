@@ -10,14 +10,14 @@ ghost use Rattle.history_model.specs.Facts.{Fact, Flags, created, flagged, is_cr
 ghost use Rattle.history_model.specs.Streams.{can_flush, entry, facts_by, flags_at, is_flush_of};
 ghost use Rattle.history_model.specs.Tally.{tally};
 ghost use Rattle.history_model.specs.Tells.{TellsEntry};
-ghost use Rattle.entry_records.specs.Log.{IsEntryOf, IsLogAt, IsLogOf, IsNotedBy, Log, birth_facts, blank_log, flushed_log, log_with, may_flush};
+ghost use Rattle.entry_records.specs.Log.{IsEntryOf, IsLogAt, IsLogOf, MayNote, Log, birth_facts, blank_log, flushed_log, log_with, may_flush};
 ghost use Rattle.entry_records.specs.Unflushed.{actor_count, pair_count};
 
 /// A blank log counts no facts. A log that counts what facts say counts these and more where more are noted that its actor
 /// may note. Its entry tells these facts, and there is one.
 pub fn a_log_counts_what_is_noted()
     ensures blank { (a : Actor) → IsLogOf [] (blank_log a) }
-    ensures more { (l : Log) (known more : List Fact) → IsLogOf known l → AllByRecursion (IsNotedBy l.actor) more → IsLogOf (known ++ more) (log_with more l) }
+    ensures more { (l : Log) (known more : List Fact) → IsLogOf known l → AllByRecursion (MayNote l.actor) more → IsLogOf (known ++ more) (log_with more l) }
     ensures entry { (l : Log) (known : List Fact) (flags : Flags) (e : Entry) → IsLogOf known l → IsEntryOf l flags e → TellsEntry l.actor e (flagged l.actor flags ∷ known) }
     ensures one { (l : Log) (flags : Flags) (e f : Entry) → IsEntryOf l flags e → IsEntryOf l flags f → e ≡ f }
 {}

@@ -6,7 +6,7 @@ use Rattle.history_model.specs.Facts.{flagged}
 use Rattle.history_model.specs.Tells.{TellsEntry}
 use Rattle.row_sums.proofs.OnesLemmas.{ones-stand}
 use Rattle.entry_records.specs.Unflushed.{Unflushed, actors_in, facts_noted, pairs_in}
-use Rattle.entry_records.proofs.EntryLemmas.{entry-ordered, entry-tells}
+use Rattle.entry_records.proofs.EntryLemmas.{entry-ordered, entry-told}
 use Rattle.entry_records.proofs.KeepingLemmas.{actors-total, pairs-total}
 use Rattle.entry_records.proofs.notes.Notes.into_entry.Goals as goal
 
@@ -37,11 +37,11 @@ returns-clause-tells c =
     let created = c.sum_of_pairs-created.result in
     let released = c.sum_of_counts-released.result in
     let e : Entry = record { actor = a; received = i.received; busy = c.args.busy; root = c.args.root; created = created; sent = sent; released = released } in
-    let tells = entry-tells a inside c.args.busy c.args.root sent created released
+    let tells = entry-told a inside c.args.busy c.args.root sent created released
     (λ x. c.sum_of_counts-sent.ensures.totals x ∙ actors-total i.sent.items c.self.invariant.sent x)
     (λ b x. c.sum_of_pairs-created.ensures.totals b x ∙ pairs-total i.created.items c.self.invariant.created b x)
     (λ x. c.sum_of_counts-released.ensures.totals x ∙ actors-total i.released.items c.self.invariant.released x) in
-    subst (λ (n : Unflushed). TellsEntry a e (flagged a (record { busy = c.args.busy; root = c.args.root }) ∷ facts_noted a n)) c.self.view_is (λ _. a, tells)
+    subst (λ (n : Unflushed). TellsEntry a e (flagged a (record { busy = c.args.busy; root = c.args.root }) ∷ facts_noted a n)) c.self.view_is tells
 
 pub returns-clause-ordered : goal.returns-clause-ordered
 returns-clause-ordered c =
