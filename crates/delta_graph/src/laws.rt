@@ -11,10 +11,12 @@ ghost use Rattle.delta_graph.specs.Sums.{CountsFit, count_sum, named_count};
 /// Counts fit where all of them together do, and where the facts that they count are few enough.
 pub fn counts_fit()
     ensures together { (l : Ledger) → count_sum l < 2 ^ 32 → CountsFit l }
-    ensures facts { (entries : List Entry) (facts : List Fact) → TellEntries entries facts → length facts < 2 ^ 32 → CountsFit (entries_ledger entries) }
+    ensures facts { (entries : List Entry) (facts : List Fact) → TellEntries entries facts → length facts < 2 ^ 32
+        → CountsFit (entries_ledger entries) }
 {}
 
 /// Entries of which none counts 0 name as many different actors as the facts that they tell.
 pub fn entries_name_whom_their_facts_name()
-    ensures { (entries : List Entry) (facts : List Fact) → AllByRecursion (λ e. CountFromOne (entry_ledger e)) entries → TellEntries entries facts → named_count entries ≡ length (rising_actors (fact_names facts)) }
+    ensures { (entries : List Entry) (facts : List Fact) → AllByRecursion (λ e. CountFromOne (entry_ledger e)) entries
+        → TellEntries entries facts → named_count entries ≡ length (rising_actors (fact_names facts)) }
 {}

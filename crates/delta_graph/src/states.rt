@@ -39,7 +39,11 @@ fn add_up_states(rows: &mut Vec<StateRow>) -> Result<(), NoMemory>
 /// Whether the next state is of the last one's actor. The last one then takes in its messages, and has its flags.
 fn take_in_state(last: &mut StateRow, next: &StateRow) -> bool
     ensures same { result ≡ same_actor last.old.actor next.now.actor }
-    ensures sum { last.new ≡ (if result then record last.old { received = min (last.old.received + next.now.received) 4294967295; busy = next.now.busy; root = next.now.root } else last.old) }
+    ensures sum { last.new ≡ (if result then record last.old {
+      received = min (last.old.received + next.now.received) 4294967295;
+      busy = next.now.busy;
+      root = next.now.root;
+    } else last.old) }
 {
     let same = last.actor == next.actor;
     if same {

@@ -20,7 +20,12 @@ impl Model for Ends {
 
     ghost Value = { PlaceEnds };
 
-    ghost view = { λ e. record { from = e.from.items; to = e.to.items; from_room = vec_capacity e.from - vec_len e.from; to_room = vec_capacity e.to - vec_len e.to } };
+    ghost view = { λ e. record {
+      from = e.from.items;
+      to = e.to.items;
+      from_room = vec_capacity e.from - vec_len e.from;
+      to_room = vec_capacity e.to - vec_len e.to;
+    } };
 }
 
 impl Ends {

@@ -6,6 +6,8 @@ ghost use Rattle.edge_table.specs.declared.table.Edge.{Edge};
 
 /// The edges from a place are those whose owner has it, and the edges to it those whose target has it.
 pub fn edges_are_listed_by_place()
-    ensures from { (edges : List Edge) (place number : ℕ) → IsAmong number (edges_from edges place) ↔ ((number < length edges) × ((slice_index_or edges number no_edge).owner ≡ place)) }
-    ensures to { (edges : List Edge) (place number : ℕ) → IsAmong number (edges_to edges place) ↔ ((number < length edges) × ((slice_index_or edges number no_edge).target ≡ place)) }
+    ensures from { (edges : List Edge) (place number : ℕ) → IsAmong number (edges_from edges place)
+        ↔ ((number < length edges) × ((slice_index_or edges number no_edge).owner ≡ place)) }
+    ensures to { (edges : List Edge) (place number : ℕ) → IsAmong number (edges_to edges place)
+        ↔ ((number < length edges) × ((slice_index_or edges number no_edge).target ≡ place)) }
 {}

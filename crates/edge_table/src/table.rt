@@ -117,7 +117,10 @@ impl EdgeTable {
         requires owner { owner_place < self.old.places }
         requires target { target_place < self.old.places }
         ensures number { IfOk result (λ number. number ≡ length self.old.edges) }
-        ensures ok { OnOk result (self.new ≡ record self.old { pairs = self.old.pairs ++ (owner, target) ∷ []; edges = self.old.edges ++ record { owner = owner_place; target = target_place; given = 0; released = 0 } ∷ [] }) }
+        ensures ok { OnOk result (self.new ≡ record self.old {
+          pairs = self.old.pairs ++ (owner, target) ∷ [];
+          edges = self.old.edges ++ record { owner = owner_place; target = target_place; given = 0; released = 0 } ∷ [];
+        }) }
         ensures err { OnErr result (self.new ≡ self.old) }
     {
         let number = self.edges.len();
@@ -145,7 +148,10 @@ impl EdgeTable {
     /// The last edge is taken away. Constant time on average.
     pub fn remove_last_edge(&mut self)
         requires { 0 < length self.old.edges }
-        ensures { let kept = length self.old.edges - 1 in self.new ≡ record self.old { pairs = take kept self.old.pairs; edges = take kept self.old.edges } }
+        ensures { let kept = length self.old.edges - 1 in self.new ≡ record self.old {
+          pairs = take kept self.old.pairs;
+          edges = take kept self.old.edges;
+        } }
     {
         self.pairs.pop();
         if let Some(edge) = self.edges.pop() {

@@ -28,7 +28,12 @@ impl Model for Notes {
 
     ghost Value = { Unflushed };
 
-    ghost view = { λ n. record { received = n.received; sent = actors_in n.sent.items; created = pairs_in n.created.items; released = actors_in n.released.items } };
+    ghost view = { λ n. record {
+      received = n.received;
+      sent = actors_in n.sent.items;
+      created = pairs_in n.created.items;
+      released = actors_in n.released.items;
+    } };
 
     ghost invariant = { λ n. KeepNotes n.sent.items n.created.items n.released.items };
 }
@@ -58,7 +63,11 @@ impl Notes {
     pub fn add_sent(&mut self, to: ActorId, refs: &[ActorId]) -> Result<(), NoMemory>
         requires sent { actor_count to self.old.sent + 1 < 2 ^ 32 }
         requires created { (a : Actor) → pair_count to a self.old.created + count_by (same_actor a) refs.now < 2 ^ 32 }
-        ensures ok { OnOk result (self.new ≡ record self.old { sent = self.old.sent ++ to ∷ []; created = self.old.created ++ map (λ a. (to, a)) refs.now }) }
+        ensures ok { OnOk result (self.new ≡ record self.old {
+          sent = self.old.sent ++ to ∷ [];
+          created = self.old.created
+              ++ map (λ a. (to, a)) refs.now;
+        }) }
         ensures err { OnErr result (self.new ≡ self.old) }
     {
         if self.sent.reserve(1).is_err() || self.created.reserve(refs.len()).is_err() {

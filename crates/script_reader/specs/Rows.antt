@@ -104,4 +104,13 @@ draft_of d = do
   repeats ← links_at words.Repeats words.Repeat nodes d
   crashes ← crashes_at nodes d
   turns ← number_at words.Turns 1 1000001 d
-  Ok (record { nodes = nodes; behaviours = behaviours; seeds = seeds; ties = ties; losses = losses; repeats = repeats; crashes = crashes; turns = turns })
+  Ok (record {
+    nodes = nodes;
+    behaviours = behaviours;
+    seeds = seeds;
+    ties = ties;
+    losses = losses;
+    repeats = repeats;
+    crashes = crashes;
+    turns = turns;
+  })

@@ -19,7 +19,18 @@ use Rattle.script_reader.specs.Walk.{◌>>=◌, each}
 
 abbrev pub whole : Draft → List Behaviour → List Seed → Scripted
 whole draft behaviours seeds =
-    record { nodes = draft.nodes; code = behaviours; seeds = seeds; ties = draft.ties; plan = record { losses = draft.losses; repeats = draft.repeats; crashes = draft.crashes }; turns = draft.turns }
+    record {
+      nodes = draft.nodes;
+      code = behaviours;
+      seeds = seeds;
+      ties = draft.ties;
+      plan = record {
+        losses = draft.losses;
+        repeats = draft.repeats;
+        crashes = draft.crashes;
+      };
+      turns = draft.turns;
+    }
 
 -- names that differ; then each behaviour that is named is known, first in the behaviours, then in the seeds
 abbrev pub numbered : Draft → Result Scripted Flaw

@@ -43,7 +43,8 @@ impl Ties {
 
     /// Puts the tie last and answers true, unless its seed has its name already. Logarithmic time in the number of ties.
     pub fn add(&mut self, tie: Tie) -> Result<bool, NoMemory>
-        ensures { IfOk result (λ added. (added ≡ not (list_any (same_tie tie) self.old)) × (self.new ≡ (if added then self.old ++ tie ∷ [] else self.old))) }
+        ensures { IfOk result (λ added. (added ≡ not (list_any (same_tie tie) self.old))
+            × (self.new ≡ (if added then self.old ++ tie ∷ [] else self.old))) }
     {
         let Ok(name) = Vec::from_slice(self.alloc, tie.name.as_slice()) else {
             return Err(NoMemory);

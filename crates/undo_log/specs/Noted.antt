@@ -40,5 +40,6 @@ other_total Admitted = told_total
 
 -- each thing is counted so much more often on this side, and as often as before on the other
 pub record NotesMore (old new : List Correction) (side : Side) (messages : List ActorCount) (pairs : List PairCount) : Type 0 where
-  pub noted : (owner : Option Actor) (target : Actor) → side_total side owner target new ≡ side_total side owner target old + noted_count owner target messages pairs
+  pub noted : (owner : Option Actor) (target : Actor) → side_total side owner target new
+      ≡ side_total side owner target old + noted_count owner target messages pairs
   pub others : (owner : Option Actor) (target : Actor) → other_total side owner target new ≡ other_total side owner target old

@@ -51,7 +51,10 @@ pub fn add_up(rows: &mut Vec<Correction>)
 /// Whether the next row has the key of the last one, which then takes in its numbers.
 fn take_in(last: &mut Correction, next: &Correction) -> bool
     ensures same { result ≡ (same_owner last.old.owner next.now.owner && same_actor last.old.target next.now.target) }
-    ensures sum { last.new ≡ (if result then record last.old { told = min (last.old.told + next.now.told) 18446744073709551615; admitted = min (last.old.admitted + next.now.admitted) 18446744073709551615 } else last.old) }
+    ensures sum { last.new ≡ (if result then record last.old {
+      told = min (last.old.told + next.now.told) 18446744073709551615;
+      admitted = min (last.old.admitted + next.now.admitted) 18446744073709551615;
+    } else last.old) }
 {
     let same = last.owner == next.owner && last.target == next.target;
     if same {

@@ -49,7 +49,8 @@ impl NodeLog {
         messages: &ActorCounts,
         pairs: &PairCounts,
     ) -> Result<(), NoMemory>
-        requires { (owner : Option Actor) → (target : Actor) → side_total side owner target self.old + noted_count owner target messages.now pairs.now < 2 ^ 63 }
+        requires { (owner : Option Actor) → (target : Actor)
+            → side_total side owner target self.old + noted_count owner target messages.now pairs.now < 2 ^ 63 }
         ensures ok { OnOk result (NotesMore self.old self.new side messages.now pairs.now) }
         ensures err { OnErr result (self.new ≡ self.old) }
     {

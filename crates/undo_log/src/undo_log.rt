@@ -49,7 +49,8 @@ impl UndoLog {
         sent: &ActorCounts,
         created: &PairCounts,
     ) -> Result<(), NoMemory>
-        requires { (owner : Option Actor) → (target : Actor) → told_by self.old node owner target + noted_count owner target sent.now created.now < 2 ^ 63 }
+        requires { (owner : Option Actor) → (target : Actor)
+            → told_by self.old node owner target + noted_count owner target sent.now created.now < 2 ^ 63 }
         ensures ok { OnOk result (Notes self.old self.new node Told sent.now created.now) }
         ensures err { OnErr result (self.new ≡ self.old) }
     {
@@ -64,7 +65,8 @@ impl UndoLog {
         messages: &ActorCounts,
         carried: &PairCounts,
     ) -> Result<(), NoMemory>
-        requires { (owner : Option Actor) → (target : Actor) → admitted_from self.old from owner target + noted_count owner target messages.now carried.now < 2 ^ 63 }
+        requires { (owner : Option Actor) → (target : Actor)
+            → admitted_from self.old from owner target + noted_count owner target messages.now carried.now < 2 ^ 63 }
         ensures ok { OnOk result (Notes self.old self.new from Admitted messages.now carried.now) }
         ensures err { OnErr result (self.new ≡ self.old) }
     {
