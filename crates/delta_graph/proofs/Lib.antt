@@ -1,4 +1,3 @@
-pub mod FoldLemmas
 pub mod GatheredLemmas
 pub mod FitLemmas
 pub mod StateLemmas

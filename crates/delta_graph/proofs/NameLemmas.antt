@@ -16,7 +16,7 @@ use Rattle.history_model.proofs.Basics.{same_actor-sym}
 use Rattle.history_model.proofs.RisingActors.{among-decides, rising-among, rising_actors-rise, rising_actors-same}
 use Rattle.history_model.proofs.TellsCounts.{alike-back}
 use Rattle.history_model.proofs.TellsNames.{named-alike, rows-named}
-use Rattle.delta_graph.proofs.FoldLemmas.{Folds, IsReading, is_fold}
+use Rattle.row_sums.proofs.FoldLemmas.{Folds, IsReading, is_fold}
 use Rattle.delta_graph.proofs.StateLemmas.{actors-sorted}
 
 -- ---- sorted names, each kept once

@@ -12,8 +12,9 @@ use Rattle.crgc_ids.proofs.ActorOrder.{actor_cmp, actor_cmp-above, actor_cmp-bel
 use Rattle.history_model.specs.declared.records.StateRow.{StateRow}
 use Rattle.history_model.specs.Facts.{Flags}
 use Rattle.history_model.specs.Ledgers.{received_total, row_flags, state_flags}
-use Rattle.row_sums.proofs.SumLemmas.{AtMost, one_of_two, room}
-use Rattle.delta_graph.proofs.FoldLemmas.{Folds, IsReading}
+use Rattle.row_sums.proofs.FoldLemmas.{AtMost, Folds, IsReading}
+use Rattle.row_sums.proofs.RowLemmas.{takes_in}
+use Rattle.row_sums.proofs.SumLemmas.{taken-total}
 
 -- ---- the order of actors
 
@@ -85,46 +86,31 @@ reads = record {
 abbrev merged : StateRow → StateRow → StateRow
 merged last next = record last { received = min (last.received + next.received) 4294967295; busy = next.busy; root = next.root }
 
-module _ (next last : StateRow) (one : last.actor ≡ next.actor) (rows : List StateRow) (fit : Fit (last ∷ next ∷ rows)) where
-  both_fit : last.received + next.received < 2 ^ 32
-  both_fit = room same_actor (λ (r : StateRow). r.actor) (λ (r : StateRow). r.received) (2 ^ 32) same_actor-decides last next rows one fit
-
-  merged-received : (a : Actor) → received_total a (merged last next ∷ rows) ≡ received_total a (last ∷ next ∷ rows)
-  merged-received a =
-      let fits = both_fit in
-      let sum : (merged last next).received ≡ last.received + next.received = omega arith in
-      let new = sum_by-cons (counted a) (merged last next) rows in
-      let old = sum_by-cons (counted a) last (next ∷ rows) in
-      let older = sum_by-cons (counted a) next rows in
-      let split = one_of_two same_actor (λ (r : StateRow). r.actor) (λ (r : StateRow). r.received) (2 ^ 32) same_actor-decides a last next (merged last next) refl one sum in
-      omega arith
-
-  merged-flags : (a : Actor) → row_flags a (merged last next ∷ rows) ≡ row_flags a (last ∷ next ∷ rows)
-  merged-flags a =
-      let found = row_flags a rows in
-      let Case : Bool → Type 0 = λ v. cond v (Some (unwrap_or found (state_flags next))) found
-      ≡ cond v (Some (unwrap_or (cond v (Some (unwrap_or found (state_flags next))) found) (state_flags last))) (cond v (Some (unwrap_or found (state_flags next))) found) in
-      let case : Case (same_actor a last.actor) = elim (same_actor a last.actor) as Case [ true ↦ refl | false ↦ refl ] in
-      subst (λ b. cond (same_actor a last.actor) (Some (unwrap_or found (state_flags next))) found
-      ≡ cond (same_actor a last.actor) (Some (unwrap_or (cond (same_actor a b) (Some (unwrap_or found (state_flags next))) found) (state_flags last))) (cond (same_actor a b) (Some (unwrap_or found (state_flags next))) found)) one case
+-- it has the flags of the last one
+merged-flags : (next last : StateRow) (a : Actor) (rows : List StateRow) → last.actor ≡ next.actor → row_flags a (merged last next ∷ rows) ≡ row_flags a (last ∷ next ∷ rows)
+merged-flags next last a rows one =
+    let found = row_flags a rows in
+    let own : Bool → Option Flags = λ v. cond v (Some (unwrap_or found (state_flags next))) found in
+    let Case : Bool → Type 0 = λ v. own v ≡ cond v (Some (unwrap_or (own v) (state_flags last))) (own v) in
+    let case : Case (same_actor a last.actor) = elim (same_actor a last.actor) as Case [ true ↦ refl | false ↦ refl ] in
+    subst (λ b. own (same_actor a last.actor) ≡ cond (same_actor a last.actor) (Some (unwrap_or (own (same_actor a b)) (state_flags last))) (own (same_actor a b))) one case
 
 -- a state takes in the next one of its actor
 pub folds : (next last : StateRow) (b : Bool) (next' last' : StateRow) → b ≡ same_actor last.actor next.actor → next' ≡ next → last' ≡ cond b (merged last next) last → Folds same_actor (λ r. r.actor) read Fit next last b next' last'
-folds next last true next' last' tells passes is =
-    let one : last.actor ≡ next.actor = (same_actor-decides last.actor next.actor).0 (sym tells) in
+folds next last b next' last' tells passes is =
+    let key : StateRow → Actor = λ r. r.actor in
+    let count : StateRow → ℕ = λ r. r.received in
+    let took = takes_in same_actor key count (2 ^ 32) 4294967295 (omega arith) next last b next' last' (merged last next) refl refl tells passes is in
+    let received = λ (e : b ≡ true) (rows : List StateRow) (fit : Fit (last ∷ next ∷ rows)) (a : Actor). taken-total same_actor key count (2 ^ 32) same_actor-decides a next last b next' last' rows took e fit in
     record {
-      tells = tells;
-      passes = passes;
-      stays = ap (λ r. r.actor) is;
-      leaves = λ e. absurd (false≢true (sym e));
-      fits = λ _ rows fit a. subst (λ r. received_total a (r ∷ rows) < 2 ^ 32) (sym is) (subst (λ n. n < 2 ^ 32) (sym (merged-received next last one rows fit a)) (fit a));
-      reads = λ _ rows fit a. subst (λ r. read a (r ∷ rows) ≡ read a (last ∷ next ∷ rows)) (sym is) (λ i. (merged-received next last one rows fit a i, merged-flags next last one rows fit a i));
+      tells = took.tells;
+      passes = took.passes;
+      stays = took.stays;
+      leaves = took.leaves;
+      fits = λ e rows fit a. (let here = fit a in let same_total = received e rows fit a in omega arith);
+      reads = λ e rows fit a. (
+          let one : last.actor ≡ next.actor = (same_actor-decides last.actor next.actor).0 (sym tells ∙ e) in
+          let flags = ap (λ r. row_flags a (r ∷ rows)) (is ∙ ap (λ v. cond v (merged last next) last) e) ∙ merged-flags next last a rows one in
+          λ i. (received e rows fit a i, flags i)
+          );
     }
-folds next last false next' last' tells passes is = record {
-  tells = tells;
-  passes = passes;
-  stays = ap (λ r. r.actor) is;
-  leaves = λ _. is;
-  fits = λ e. absurd (false≢true e);
-  reads = λ e. absurd (false≢true e);
-}

@@ -1,3 +1,4 @@
+pub mod FoldLemmas
 pub mod SumLemmas
 pub mod RowLemmas
 pub mod OnesLemmas

@@ -3,7 +3,7 @@ use Rattle.std.proofs.lemmas.List.Sorted.{answers_always, sum_by-IsPermutation}
 use Rattle.crgc_ids.specs.Actor.{Actor, IsActorBelow, same_actor}
 use Rattle.history_model.specs.declared.records.StateRow.{StateRow}
 use Rattle.crgc_ids.proofs.KeyOrders.{actor_order}
-use Rattle.delta_graph.proofs.FoldLemmas.{is_fold}
+use Rattle.row_sums.proofs.FoldLemmas.{is_fold}
 use Rattle.delta_graph.proofs.StateLemmas.{Fit, actors-sorted, flags-sorted, folds, read, reads}
 use Rattle.delta_graph.proofs.states.add_up_states.Goals as goal
 

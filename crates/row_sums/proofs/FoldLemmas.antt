@@ -1,5 +1,5 @@
 -- Sorted rows, of which each takes in the later ones of its key: they rise, and what is read of them stays.
-use Rattle.std.proofs.Common.{◌≡◌, Bool, true, false, List, [], ◌∷◌, refl, sym, ◌∙◌, ap, subst, inl, inr}
+use Rattle.std.proofs.Common.{◌≡◌, ◌⊎◌, ◌+◌, ℕ, suc, Bool, true, false, List, [], ◌∷◌, get_or, refl, sym, ◌∙◌, ap, subst, inl, inr, arith}
 use Rattle.std.proofs.lemmas.Bool.{false≢true}
 use Rattle.std.specs.Bool.{MatchBool}
 use Rattle.std.specs.List.{AllByRecursion}
@@ -8,7 +8,33 @@ use Rattle.std.specs.List.Sorted.{IsSortedBy}
 use Rattle.crgc_ids.specs.Rising.{IsRising}
 use Rattle.crgc_ids.proofs.KeyOrders.{IsKeyOrder}
 use Rattle.crgc_ids.proofs.MembersLaws.{all-implied}
-use Rattle.row_sums.proofs.SumLemmas.{AtMost, NeverFalls, below-at_most, sorted-never_falls}
+
+-- ---- lists that never fall
+
+abbrev pub AtMost : {K : Type 0} → (K → K → Type 0) → K → K → Type 0
+AtMost below j k = (j ≡ k) ⊎ below j k
+
+-- no key is below the one before it, and the first not below k
+abbrev pub NeverFalls : {K X : Type 0} → (K → K → Type 0) → (X → K) → K → List X → Type 0
+NeverFalls below key k [] = Unit {0}
+NeverFalls below key k (x ∷ xs) = AtMost below k (key x) × NeverFalls below key (key x) xs
+
+-- what is below a key is below those not below it
+below-at_most : {K : Type 0} (below : K → K → Type 0) (trans : (i j k : K) → below i j → below j k → below i k) (i j k : K) → below i j → AtMost below j k → below i k
+below-at_most below trans i j k h (inl e) = subst (below i) e h
+below-at_most below trans i j k h (inr g) = trans i j k h g
+
+-- a sorted list never falls
+pub sorted-never_falls : {K X : Type 0} (below : K → K → Type 0) (key : X → K) (is_less : X → X → Bool) (order : (x y : X) → is_less y x ≡ false → AtMost below (key x) (key y)) (x : X) (xs : List X) → IsSortedBy is_less (x ∷ xs) → NeverFalls below key (key x) xs
+sorted-never_falls below key is_less order x [] up = tt
+sorted-never_falls below key is_less order x (y ∷ ys) up =
+    let later : IsSortedBy is_less (y ∷ ys) = λ k d low high. (
+    let next : suc k + 1 ≡ suc (k + 1) = omega arith in
+    subst (λ n. is_less (get_or (x ∷ y ∷ ys) n d) (get_or (y ∷ ys) k d) ≡ false) next (up (suc k) d (omega arith) (omega arith))
+    ) in
+    (order x y (up 0 x (omega arith) (omega arith)), sorted-never_falls below key is_less order y ys later)
+
+-- ---- rows that take in the next one
 
 -- what is read of rows, for a key: of a row and others it depends on the row and what is read of the others. The rows may
 -- have to fit, and so do the rows after the first
