@@ -1,5 +1,4 @@
 pub mod Names
-pub mod Code
 pub mod Bound
 pub mod Rows
 pub mod Held

@@ -14,9 +14,7 @@ pub struct Behaviour {
 /// Behaviours in the order of their numbers, from 0.
 pub type BehaviourList = ItemList<Behaviour>;
 
-/// The behaviours of a script: at most 256, with names that differ. Each is well formed: its names are well spelled, its
-/// numbers and lists within their limits, and each behaviour that it spawns is one of these. Contracts see the list of the
-/// behaviours.
+/// The behaviours of a script. Contracts see the list of them.
 #[derive(Debug, Drop)]
 pub struct Code {
     pub behaviours: BehaviourList,

@@ -7,7 +7,6 @@ use Rattle.std.specs.List.{IsDistinct, list_all, list_any}
 use Rattle.std.specs.Str.{bytes_eq}
 use Rattle.serde_json.specs.Data.{Data}
 use Rattle.serde_json.specs.Find.{as_object, as_str, get}
-use Rattle.behaviour_lang.specs.Code.{is_instr, is_name}
 use Rattle.behaviour_lang.specs.declared.instr.Instr.TheVariants as instrs
 use Rattle.behaviour_lang.specs.declared.instr.Name.{Name}
 use Rattle.behaviour_lang.specs.declared.instr.Name.TheVariants.{Own, Message, Local}
