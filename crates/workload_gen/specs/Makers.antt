@@ -7,8 +7,11 @@ number_after x = (1103 * x + 12345) % 65536
 
 -- the maker j of the number x: its node, its friend's node, and its share of the wakes
 abbrev pub maker_of : ℕ → ℕ → ℕ → Maker
-maker_of x size j = let node = (x / 16) % 4 in record { node = node; friend = (node + 1 + (x / 256) % 3) % 4;
-    wakes = size / 16 + (if nat_lt j (size % 16) then 1 else 0) }
+maker_of x size j = let node = (x / 16) % 4 in record {
+  node = node;
+  friend = (node + 1 + (x / 256) % 3) % 4;
+  wakes = size / 16 + (if nat_lt j (size % 16) then 1 else 0);
+}
 
 -- n makers from the number j on, where x is the number before
 unfoldable pub makers_from : ℕ → ℕ → ℕ → ℕ → List Maker
