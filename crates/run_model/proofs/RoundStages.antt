@@ -18,7 +18,7 @@ use Rattle.history_model.specs.Streams.{are_flags, can_flush, entry, flags_at, f
 use Rattle.history_model.proofs.AccountsBirths.{born-on_node}
 use Rattle.history_model.proofs.Basics.{eqb-refl, legal-kept, same_actor-equal, same_actor-refl}
 use Rattle.run_model.specs.Round.{each, flushed, flushed_on, flushes, flushes_on, handed, handed_from, hands, published, removals, tried}
-use Rattle.run_model.proofs.RoundSteps.{allowed-makes, each-keeps, each-makes, flushed-keeps, flushed_on-keeps, handed-keeps, handed_from-keeps, published-keeps, tried-keeps, tried-makes}
+use Rattle.run_model.proofs.RoundSteps.{actor_of, allowed-makes, each-keeps, each-makes, flushed-keeps, flushed_on-keeps, handed-keeps, handed_from-keeps, published-keeps, tried-keeps, tried-makes}
 
 -- each pair of numbers below the bound, one after the other
 both-make : (Q : ℕ → ℕ → List Event → Type 0) (step : ℕ → ℕ → List Event → List Event) (bound : ℕ)
@@ -91,17 +91,17 @@ blank-empty (x ∷ xs) blank = absurd (cc)
 
 -- actor number s of node m was flushed, where it is there and m is up
 abbrev HasFlushed : Cluster → ℕ → ℕ → List Event → Type 0
-HasFlushed cl m s h = IsTrue (is_up m h) → s < births m h → IsFalse (can_flush cl (record { node = m; serial = s }) h)
+HasFlushed cl m s h = IsTrue (is_up m h) → s < births m h → IsFalse (can_flush cl (actor_of m s) h)
 
 flush-keeps : (cl : Cluster) (m s : ℕ) (b : Actor) (h : List Event) → HasFlushed cl m s h → HasFlushed cl m s (Flush b ∷ h)
-flush-keeps cl m s b h holds up below = nothing-flush cl (record { node = m; serial = s }) b h (holds up below)
+flush-keeps cl m s b h holds up below = nothing-flush cl (actor_of m s) b h (holds up below)
 
 publish-keeps : (cl : Cluster) (m s n : ℕ) (h : List Event) → HasFlushed cl m s h → HasFlushed cl m s (Publish n ∷ h)
-publish-keeps cl m s n h holds up below = nothing-silent cl (record { node = m; serial = s }) h (holds up below)
+publish-keeps cl m s n h holds up below = nothing-silent cl (actor_of m s) h (holds up below)
 
 flush-makes : (cl : Cluster) (m past s : ℕ) (h : List Event) → HasFlushed cl m s (flushed cl m past s h)
 flush-makes cl m past s h =
-    let a : Actor = record { node = m; serial = s } in
+    let a = actor_of m s in
     allowed-makes (HasFlushed cl m s) cl (Flush a) h (published cl m past (Flush a ∷ h))
     (λ _. published-keeps (HasFlushed cl m s) cl m (λ g _. publish-keeps cl m s m g) past (Flush a ∷ h) (λ _ _. just_flushed-nothing cl a h))
     (λ refused up below. false_from_ne_true (can_flush cl a h) (λ can. refused (flush-allowed cl a h (lt-ltb s (births m h) below) up can)))
@@ -118,7 +118,7 @@ told-makes cl m h node =
     let same : Same (flushed_on cl m h) = flushed_on-keeps Same cl m (λ _ _ e. e) (λ _ _ _ e. e) h refl in
     let each_one : (s : ℕ) → s < births m h → HasFlushed cl m s all =
     each-makes (λ _. Unit {0}) (HasFlushed cl m) (flushed cl m past) (λ _ _ _. tt) (λ s g _. flush-makes cl m past s g)
-    (λ k j g _ _ before. flushed-keeps (HasFlushed cl m j) cl m (λ f _. publish-keeps cl m j m f) (λ s f _. flush-keeps cl m j (record { node = m; serial = s }) f) past k g before)
+    (λ k j g _ _ before. flushed-keeps (HasFlushed cl m j) cl m (λ f _. publish-keeps cl m j m f) (λ s f _. flush-keeps cl m j (actor_of m s) f) past k g before)
     (births m h) h tt in (
       λ s up below. tried-keeps (HasFlushed cl m s) cl (Publish m) all (λ _. publish-keeps cl m s m all) (each_one s (omega (arith, below, same))) up below,
       tried-makes (λ g. IsTrue (is_up m g) → queue cl m g ≡ []) cl (Publish m) all
@@ -132,7 +132,7 @@ told-stays cl m j h lower holds =
     flushed_on-keeps (HasTold cl j) cl m
     (λ g _ told. ((λ s. publish-keeps cl j s m g (told.0 s)), λ up. ap (λ v. cond v [] (queue cl j g)) apart ∙ told.1 up))
     (λ s g _ told. (
-    let a : Actor = record { node = m; serial = s } in
+    let a = actor_of m s in
     ((λ x. flush-keeps cl j x a g (told.0 x)), λ up. ap (λ v. cond v (queue cl j g ++ entry cl a g) (queue cl j g)) apart ∙ told.1 up)
     )) h holds
 

@@ -15,21 +15,24 @@ use Rattle.run_model.specs.Round.{each, flushed, flushed_on, flushes, flushes_on
 
 -- ---- one event
 
--- what holds of what follows where no rule refuses the event, and else of what was before
-pub allowed-makes : (P : List Event → Type 0) (cl : Cluster) (e : Event) (h next : List Event) → (refusal cl e h ≡ None → P next) → ((refusal cl e h ≡ None → ⊥) → P h)
-    → P (cond (is_none (refusal cl e h)) next h)
-allowed-makes P cl e h next after before =
-    elim (refusal cl e h) as (λ r. refusal cl e h ≡ r → P (cond (is_none r) next h)) [
-      | None ↦ λ none. after none
-      | Some rule ↦ λ some. before (λ none. none-some rule (sym none ∙ some))
-    ] refl
+-- what holds before the event holds after it, where no rule refuses it
+abbrev pub Keeps : (List Event → Type 0) → Cluster → Event → Type 0
+Keeps P cl e = (h : List Event) → refusal cl e h ≡ None → P h → P (e ∷ h)
 
-pub tried-makes : (P : List Event → Type 0) (cl : Cluster) (e : Event) (h : List Event) → (refusal cl e h ≡ None → P (e ∷ h)) → ((refusal cl e h ≡ None → ⊥) → P h)
-    → P (tried cl e h)
-tried-makes P cl e h after before = allowed-makes P cl e h (e ∷ h) after before
+module _ (P : List Event → Type 0) (cl : Cluster) (e : Event) (h : List Event) where
+  -- what holds of what comes next, if no rule refuses the event, and else of what was before
+  pub allowed-makes : (next : List Event) → (refusal cl e h ≡ None → P next) → ((refusal cl e h ≡ None → ⊥) → P h) → P (cond (is_none (refusal cl e h)) next h)
+  allowed-makes next after before =
+      elim (refusal cl e h) as (λ r. refusal cl e h ≡ r → P (cond (is_none r) next h)) [
+        | None ↦ λ none. after none
+        | Some rule ↦ λ some. before (λ none. none-some rule (sym none ∙ some))
+      ] refl
 
-pub tried-keeps : (P : List Event → Type 0) (cl : Cluster) (e : Event) (h : List Event) → (refusal cl e h ≡ None → P h → P (e ∷ h)) → P h → P (tried cl e h)
-tried-keeps P cl e h keeps holds = tried-makes P cl e h (λ none. keeps none holds) (λ _. holds)
+  pub tried-makes : (refusal cl e h ≡ None → P (e ∷ h)) → ((refusal cl e h ≡ None → ⊥) → P h) → P (tried cl e h)
+  tried-makes = allowed-makes (e ∷ h)
+
+  pub tried-keeps : (refusal cl e h ≡ None → P h → P (e ∷ h)) → P h → P (tried cl e h)
+  tried-keeps keeps holds = tried-makes (λ none. keeps none holds) (λ _. holds)
 
 -- ---- a step for each number
 
@@ -53,45 +56,45 @@ each-makes I Q step keeps makes stays (suc n) h holds j below =
 
 -- ---- the stages
 
--- an event of any of the six forms keeps P where no rule refuses it
-pub record IsKept (cl : Cluster) (P : List Event → Type 0) : Type 0 where
-  pub remove : (m n : ℕ) (h : List Event) → refusal cl (Remove m n) h ≡ None → P h → P (Remove m n ∷ h)
-  pub window : (m s : ℕ) (h : List Event) → refusal cl (Window m s) h ≡ None → P h → P (Window m s ∷ h)
-  pub flush : (a : Actor) (h : List Event) → refusal cl (Flush a) h ≡ None → P h → P (Flush a ∷ h)
-  pub publish : (m : ℕ) (h : List Event) → refusal cl (Publish m) h ≡ None → P h → P (Publish m ∷ h)
-  pub hand : (m o k : ℕ) (h : List Event) → refusal cl (Hand m o k) h ≡ None → P h → P (Hand m o k ∷ h)
-  pub sweep : (m : ℕ) (h : List Event) → refusal cl (Sweep m) h ≡ None → P h → P (Sweep m ∷ h)
+-- the actor of a node with a serial
+abbrev pub actor_of : ℕ → ℕ → Actor
+actor_of m s = record { node = m; serial = s }
 
 module _ (P : List Event → Type 0) (cl : Cluster) where
-  pub removals-keep : ((m n : ℕ) (h : List Event) → refusal cl (Remove m n) h ≡ None → P h → P (Remove m n ∷ h)) → (h : List Event) → P h → P (removals cl h)
+  pub removals-keep : ((m n : ℕ) → Keeps P cl (Remove m n)) → (h : List Event) → P h → P (removals cl h)
   removals-keep keeps =
-      each-keeps P (λ m. each (λ n. tried cl (Remove m n)) cl.nodes) (λ m. each-keeps P (λ n. tried cl (Remove m n)) (λ n h. tried-keeps P cl (Remove m n) h (keeps m n h)) cl.nodes) cl.nodes
+      each-keeps P (λ m. each (λ n. tried cl (Remove m n)) cl.nodes)
+      (λ m. each-keeps P (λ n. tried cl (Remove m n)) (λ n h. tried-keeps P cl (Remove m n) h (keeps m n h)) cl.nodes) cl.nodes
 
-  pub windows-keep : ((m s : ℕ) (h : List Event) → refusal cl (Window m s) h ≡ None → P h → P (Window m s ∷ h)) → (h : List Event) → P h → P (windows cl h)
+  pub windows-keep : ((m s : ℕ) → Keeps P cl (Window m s)) → (h : List Event) → P h → P (windows cl h)
   windows-keep keeps =
-      each-keeps P (λ m. each (λ s. tried cl (Window m s)) cl.nodes) (λ m. each-keeps P (λ s. tried cl (Window m s)) (λ s h. tried-keeps P cl (Window m s) h (keeps m s h)) cl.nodes) cl.nodes
+      each-keeps P (λ m. each (λ s. tried cl (Window m s)) cl.nodes)
+      (λ m. each-keeps P (λ s. tried cl (Window m s)) (λ s h. tried-keeps P cl (Window m s) h (keeps m s h)) cl.nodes) cl.nodes
 
-  module _ (m : ℕ) (publish : (h : List Event) → refusal cl (Publish m) h ≡ None → P h → P (Publish m ∷ h)) where
+  module _ (m : ℕ) (publish : Keeps P cl (Publish m)) where
     pub published-keeps : (past : ℕ) (h : List Event) → P h → P (published cl m past h)
     published-keeps past h holds =
-        elim ((flushes_on m h - past) % FLUSHES_PER_PUBLISH == 0) as (λ v. P (cond v (tried cl (Publish m) h) h)) [ true ↦ tried-keeps P cl (Publish m) h (publish h) holds | false ↦ holds ]
+        elim ((flushes_on m h - past) % FLUSHES_PER_PUBLISH == 0) as (λ v. P (cond v (tried cl (Publish m) h) h)) [
+          | true ↦ tried-keeps P cl (Publish m) h (publish h) holds
+          | false ↦ holds
+        ]
 
-    module _ (flush : (s : ℕ) (h : List Event) → refusal cl (Flush (record { node = m; serial = s })) h ≡ None → P h → P (Flush (record { node = m; serial = s }) ∷ h)) where
+    module _ (flush : (s : ℕ) → Keeps P cl (Flush (actor_of m s))) where
       pub flushed-keeps : (past s : ℕ) (h : List Event) → P h → P (flushed cl m past s h)
       flushed-keeps past s h holds =
-          let a : Actor = record { node = m; serial = s } in
+          let a = actor_of m s in
           allowed-makes P cl (Flush a) h (published cl m past (Flush a ∷ h)) (λ none. published-keeps past (Flush a ∷ h) (flush s h none holds)) (λ _. holds)
 
       pub flushed_on-keeps : (h : List Event) → P h → P (flushed_on cl m h)
       flushed_on-keeps h holds =
-          let all = each (flushed cl m (flushes_on m h)) (births m h) h in
-          tried-keeps P cl (Publish m) all (publish all) (each-keeps P (flushed cl m (flushes_on m h)) (flushed-keeps (flushes_on m h)) (births m h) h holds)
+          let past = flushes_on m h in
+          let all = each (flushed cl m past) (births m h) h in
+          tried-keeps P cl (Publish m) all (publish all) (each-keeps P (flushed cl m past) (flushed-keeps past) (births m h) h holds)
 
-  pub flushes-keep : ((a : Actor) (h : List Event) → refusal cl (Flush a) h ≡ None → P h → P (Flush a ∷ h)) → ((m : ℕ) (h : List Event) → refusal cl (Publish m) h ≡ None → P h → P (Publish m ∷ h))
-      → (h : List Event) → P h → P (flushes cl h)
-  flushes-keep flush publish = each-keeps P (flushed_on cl) (λ m. flushed_on-keeps m (publish m) (λ s. flush (record { node = m; serial = s }))) cl.nodes
+  pub flushes-keep : ((a : Actor) → Keeps P cl (Flush a)) → ((m : ℕ) → Keeps P cl (Publish m)) → (h : List Event) → P h → P (flushes cl h)
+  flushes-keep flush publish = each-keeps P (flushed_on cl) (λ m. flushed_on-keeps m (publish m) (λ s. flush (actor_of m s))) cl.nodes
 
-  module _ (keeps : (m o k : ℕ) (h : List Event) → refusal cl (Hand m o k) h ≡ None → P h → P (Hand m o k ∷ h)) where
+  module _ (keeps : (m o k : ℕ) → Keeps P cl (Hand m o k)) where
     pub handed-keeps : (m o k : ℕ) (h : List Event) → P h → P (handed cl m o k h)
     handed-keeps m o k h holds =
         elim (was_handed m o k h) as (λ v. P (cond v h (tried cl (Hand m o k) h))) [ true ↦ holds | false ↦ tried-keeps P cl (Hand m o k) h (keeps m o k h) holds ]
@@ -102,14 +105,29 @@ module _ (P : List Event → Type 0) (cl : Cluster) where
     pub hands-keep : (h : List Event) → P h → P (hands cl h)
     hands-keep = each-keeps P (λ m. each (handed_from cl m) cl.nodes) (λ m. each-keeps P (handed_from cl m) (handed_from-keeps m) cl.nodes) cl.nodes
 
-  pub sweeps-keep : ((m : ℕ) (h : List Event) → refusal cl (Sweep m) h ≡ None → P h → P (Sweep m ∷ h)) → (h : List Event) → P h → P (sweeps cl h)
+  pub sweeps-keep : ((m : ℕ) → Keeps P cl (Sweep m)) → (h : List Event) → P h → P (sweeps cl h)
   sweeps-keep keeps = each-keeps P (λ m. tried cl (Sweep m)) (λ m h. tried-keeps P cl (Sweep m) h (keeps m h)) cl.nodes
 
-  -- the whole round
-  pub round-keeps : IsKept cl P → (h : List Event) → P h → P (round cl h)
-  round-keeps kept h holds =
-      let removed = removals-keep kept.remove h holds in
-      let told = windows-keep kept.window (removals cl h) removed in
-      let flushed_all = flushes-keep kept.flush kept.publish (windows cl (removals cl h)) told in
-      let handed_all = hands-keep kept.hand (flushes cl (windows cl (removals cl h))) flushed_all in
-      sweeps-keep kept.sweep (hands cl (flushes cl (windows cl (removals cl h)))) handed_all
+-- ---- the whole round
+
+-- each of the five forms of events before the sweeps keeps P
+pub record IsKept (cl : Cluster) (P : List Event → Type 0) : Type 0 where
+  pub remove : (m n : ℕ) → Keeps P cl (Remove m n)
+  pub window : (m s : ℕ) → Keeps P cl (Window m s)
+  pub flush : (a : Actor) → Keeps P cl (Flush a)
+  pub publish : (m : ℕ) → Keeps P cl (Publish m)
+  pub hand : (m o k : ℕ) → Keeps P cl (Hand m o k)
+
+-- the round up to its sweeps
+abbrev pub prepared : Cluster → List Event → List Event
+prepared cl h = hands cl (flushes cl (windows cl (removals cl h)))
+
+module _ (P : List Event → Type 0) (cl : Cluster) (kept : IsKept cl P) where
+  pub prepared-keeps : (h : List Event) → P h → P (prepared cl h)
+  prepared-keeps h holds =
+      let removed = removals cl h in
+      let told = windows cl removed in
+      hands-keep P cl kept.hand (flushes cl told) (flushes-keep P cl kept.flush kept.publish told (windows-keep P cl kept.window removed (removals-keep P cl kept.remove h holds)))
+
+  pub round-keeps : ((m : ℕ) → Keeps P cl (Sweep m)) → (h : List Event) → P h → P (round cl h)
+  round-keeps sweep h holds = sweeps-keep P cl sweep (prepared cl h) (prepared-keeps h holds)

@@ -1,6 +1,7 @@
 //! The laws of the round, which hold of every legal history: turns may be in progress, and messages under way. Each function
 //! does nothing, and its contract is the law.
 ghost use Rattle.std.specs.Prelude.{◌≡◌, ◌<◌, ◌↔◌, ◌++◌, ◌∷◌, ℕ, true, IsTrue, List};
+ghost use Rattle.std.specs.List.{list_all};
 ghost use Rattle.crgc_ids.specs.Actor.{Actor};
 ghost use Rattle.history_model.specs.declared.events.Event.{Event};
 ghost use Rattle.history_model.specs.declared.events.Event.TheVariants.{Sweep};
@@ -9,15 +10,15 @@ ghost use Rattle.history_model.specs.Legal.{IsLegal};
 ghost use Rattle.history_model.specs.Quiescent.{IsDelivered, IsQuiescent, IsQuietPoint, LosesNothing};
 ghost use Rattle.history_model.specs.State.{is_up};
 ghost use Rattle.history_model.specs.Sweeps.{is_stopped};
-ghost use Rattle.run_model.specs.Round.{round};
+ghost use Rattle.run_model.specs.Round.{is_of_round, round};
 
 /// A node publishes after each so many of its flushes in a round.
 pub const FLUSHES_PER_PUBLISH: usize = 32;
 
-/// A round adds events to the history, and none that a rule refuses. Nobody crashes in it.
+/// A round adds events to the history that no rule refuses, each of one of its six forms. So nobody crashes in it.
 pub fn a_round_is_legal()
     ensures legal { (cl : Cluster) (h : List Event) → IsLegal cl h → IsLegal cl (round cl h) }
-    ensures longer { (cl : Cluster) (h : List Event) → (q : List Event) × (round cl h ≡ q ++ h) }
+    ensures adds { (cl : Cluster) (h : List Event) → (q : List Event) × (round cl h ≡ q ++ h) × (list_all is_of_round q ≡ true) }
     ensures up { (cl : Cluster) (h : List Event) (n : ℕ) → is_up n (round cl h) ≡ is_up n h }
 {}
 
