@@ -1,0 +1,4 @@
+pub mod RoundSteps
+pub mod RoundStages
+pub mod RoundQuiet
+mod RoundExamples
