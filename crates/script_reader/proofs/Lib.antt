@@ -5,4 +5,5 @@ pub mod EachLaws
 pub mod InstructionLaws
 pub mod DraftLaws
 pub mod KeptLaws
+pub mod ReadLaws
 pub mod NumberedLaws
