@@ -1,4 +1,5 @@
 pub mod Names
+pub mod Code
 pub mod Bound
 pub mod Rows
 pub mod Held

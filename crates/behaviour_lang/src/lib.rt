@@ -4,6 +4,7 @@
 mod act;
 mod bound;
 mod code;
+mod copies;
 mod instr;
 pub mod laws;
 mod locals;

@@ -59,7 +59,8 @@ fn behaviours_have_their_parts(rt: HostRuntime) -> Result<(), Fail> {
         wake,
         message: InstrList::new(rt.alloc()),
     })?;
-    let found = behaviours.get(0).ok_or("the behaviour")?;
+    let same = Code { behaviours }.copy(rt.alloc())?;
+    let found = same.behaviours.get(0).ok_or("the behaviour")?;
     assert_eq!(rt; (found.wake.len(), found.message.len()), (1, 0));
     Ok(())
 }

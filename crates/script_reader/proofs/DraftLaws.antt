@@ -1,40 +1,20 @@
 -- What every draft that is read keeps.
-use Rattle.std.proofs.Common.{◌≡◌, ◌≤◌, ◌<◌, ◌+◌, ◌==◌, ◌&&◌, ◌++◌, Bool, true, false, not, nat_le, nat_lt, ℕ, List, [], ◌∷◌, length, Option, Some, None, Result, Ok, Err, true≢false, refl, sym, ◌∙◌, ap, subst, arith}
+use Rattle.std.proofs.Common.{◌≡◌, ◌≤◌, ◌==◌, Bool, true, false, not, ℕ, List, [], ◌∷◌, length, Ok, true≢false, refl, sym, subst, arith}
 use Rattle.std.proofs.lemmas.Bool.Decides.{nat_tests}
-use Rattle.std.proofs.lemmas.Map.Keys.{IsDistinct-prop}
 use Rattle.std.specs.Cmp.{IsEquivalence}
-use Rattle.std.specs.List.{IsDistinct, list_all, list_any}
-use Rattle.std.specs.Str.{bytes_eq}
+use Rattle.std.specs.List.{IsDistinct, list_any}
 use Rattle.serde_json.specs.Data.{Data}
-use Rattle.serde_json.specs.Find.{as_object, as_str, get}
-use Rattle.behaviour_lang.specs.declared.instr.Instr.TheVariants as instrs
-use Rattle.behaviour_lang.specs.declared.instr.Name.{Name}
-use Rattle.behaviour_lang.specs.declared.instr.Name.TheVariants.{Own, Message, Local}
-use Rattle.behaviour_lang.specs.Names.{is_behaviour_name, is_digit, is_local_name, message_number, number_below_16, number_from_10}
 use Rattle.fault_plan.specs.declared.crashes.CrashRow.{CrashRow}
 use Rattle.fault_plan.specs.declared.links.LinkRow.{LinkRow}
 use Rattle.fault_plan.specs.Rows.{same_node, same_row}
 use Rattle.script_reader.specs.declared.draft.Draft.{Draft}
 use Rattle.script_reader.specs.declared.draft.DraftBehaviour.{DraftBehaviour}
-use Rattle.script_reader.specs.declared.draft.DraftInstr.{DraftInstr}
-use Rattle.script_reader.specs.declared.draft.DraftInstr.TheVariants.{Spawn, Other}
-use Rattle.script_reader.specs.declared.draft.DraftSeed.{DraftSeed}
-use Rattle.script_reader.specs.declared.fault.Flaw.{Flaw}
-use Rattle.script_reader.specs.declared.script.Tie.{Tie}
 use Rattle.script_reader.specs.declared.words.Word.{Word}
 use Rattle.script_reader.specs.declared.words.Word.TheVariants as words
 use Rattle.script_reader.specs.Drafts.{IsSound}
-use Rattle.script_reader.specs.Instructions.{drop_of, instruction_in, instruction_of, instruction_with, instructions_at, is_text, keep_of, message_of, name_of, one, operand_name, or_local, retire_of, send_of, send_to, spawn_of, two, work_of}
-use Rattle.script_reader.specs.Rows.{behaviour_of, behaviours_at, crash_of, crashes_at, draft_of, ends_at, link_of, links_at, new_link_of, seed_of, seeds_at, table, tie_of, tie_row, ties_at}
-use Rattle.script_reader.specs.Walk.{◌>>=◌, array_at, array_of, each, each_after, in_range, number_at, number_of, object_at, of_kind, optional_at, passes, text_at}
-use Rattle.script_reader.proofs.EachLaws.{array_at-few, both_hold, each-all, each-differ, each-length, number_at-range, optional_at-few, passed, text_at-test, two_steps}
-
-abbrev Fine : {A : Type 0} → A → Result A Flaw
-Fine x = Ok x
-
--- what was read well is what was made
-made : {A : Type 0} (x y : A) → Fine x ≡ Ok y → x ≡ y
-made x y h = cc
+use Rattle.script_reader.specs.Rows.{behaviour_of, behaviours_at, crash_of, crashes_at, draft_of, link_of, links_at, new_link_of, seeds_at, table, ties_at}
+use Rattle.script_reader.specs.Walk.{array_at, number_at, object_at, optional_at, passes}
+use Rattle.script_reader.proofs.EachLaws.{array_at-few, each-differ, each-length, made, passed, two_steps}
 
 pub same_row-laws : IsEquivalence same_row
 same_row-laws = record {
@@ -50,7 +30,7 @@ same_node-laws = record {
   congr = λ r s t h. grind (arith, nat_tests);
 }
 
-none_false : (b : Bool) → not b ≡ true → b ≡ false
+pub none_false : (b : Bool) → not b ≡ true → b ≡ false
 none_false true h = absurd (true≢false (sym h))
 none_false false h = refl
 

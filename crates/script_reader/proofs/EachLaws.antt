@@ -1,7 +1,7 @@
 -- What reading in turn gives, and what follows for each row.
-use Rattle.std.proofs.Common.{◌≡◌, ◌≤◌, ◌<◌, ◌+◌, ◌==◌, ◌&&◌, ◌++◌, Bool, true, false, not, cond, nat_le, nat_lt, ℕ, List, [], ◌∷◌, length, Option, Some, None, Result, Ok, Err, true≢false, refl, sym, ◌∙◌, ap, subst, arith}
+use Rattle.std.proofs.Common.{◌≡◌, ◌≤◌, ◌<◌, ◌+◌, ◌&&◌, ◌++◌, Bool, true, false, nat_le, nat_lt, ℕ, List, [], ◌∷◌, length, map, Option, Some, None, Result, Ok, Err, true≢false, refl, sym, ◌∙◌, subst, arith}
 use Rattle.std.proofs.lemmas.Bool.Decides.{nat_tests}
-use Rattle.std.proofs.lemmas.List.{length-append}
+use Rattle.std.proofs.lemmas.List.{append-nil, append_assoc, length-append, map-append}
 use Rattle.std.proofs.lemmas.List.Folds.{list_all-append}
 use Rattle.std.proofs.lemmas.Map.Keys.{IsDistinct-push}
 use Rattle.std.specs.Cmp.{IsEquivalence}
@@ -10,13 +10,20 @@ use Rattle.serde_json.specs.Data.{Data}
 use Rattle.serde_json.specs.Find.{as_str, get}
 use Rattle.script_reader.specs.declared.fault.Flaw.{Flaw}
 use Rattle.script_reader.specs.declared.words.Word.{Word}
-use Rattle.script_reader.specs.Walk.{◌>>=◌, array_at, array_in, array_of, each, each_after, in_range, number_at, number_of, of_kind, optional, optional_at, required, text_at}
+use Rattle.script_reader.specs.Walk.{◌>>=◌, array_at, array_in, array_of, each_after, in_range, number_at, number_of, of_kind, optional, optional_at, required, text_at}
 use Rattle.script_reader.specs.Words.{spelled}
 
 -- what was read in two steps was read in each
 pub two_steps : {A B : Type 0} (r : Result A Flaw) (f : A → Result B Flaw) (y : B) → (r >>= f) ≡ Ok y → (x : A) × (r ≡ Ok x) × (f x ≡ Ok y)
 two_steps (Ok x) f y h = (x, refl, h)
 two_steps (Err e) f y h = absurd cc
+
+abbrev pub Fine : {A : Type 0} → A → Result A Flaw
+Fine x = Ok x
+
+-- what was read well is what was made
+pub made : {A : Type 0} (x y : A) → Fine x ≡ Ok y → x ≡ y
+made x y h = cc
 
 -- what is in range passed the test, and is what it was
 pub passed : {A : Type 0} (word : Word) (test : Bool) (x y : A) → in_range word test x ≡ Ok y → (test ≡ true) × (x ≡ y)
@@ -80,6 +87,24 @@ each-all read item test step before (x ∷ xs) rows all h e =
     let now = both_hold (item x) (list_all item xs) all in
     let more : list_all test (before ++ row.0 ∷ []) ≡ true = list_all-append test before (row.0 ∷ []) ∙ rw (h, step before x row.0 now.0 row.1) in
     each-all read item test step (before ++ row.0 ∷ []) xs rows now.1 more row.2
+
+all-true : {A : Type 0} (xs : List A) → list_all (λ (x : A). true) xs ≡ true
+all-true [] = refl
+all-true (x ∷ xs) = all-true xs
+
+-- each row passes a test that each row does when it is read
+pub each-pass : {A B : Type 0} (read : List B → A → Result B Flaw) (test : B → Bool) (step : (before : List B) (x : A) (y : B) → read before x ≡ Ok y → test y ≡ true)
+    (before : List B) (xs : List A) (rows : List B) → list_all test before ≡ true → each_after read before xs ≡ Ok rows → list_all test rows ≡ true
+each-pass {A = A} read test step before xs rows h e = each-all read (λ (x : A). true) test (λ b x y _ r. step b x y r) before xs rows (all-true xs) h e
+
+-- what the rows have in common with the items
+pub each-same : {A B C : Type 0} (read : List B → A → Result B Flaw) (f : A → C) (g : B → C) (step : (before : List B) (x : A) (y : B) → read before x ≡ Ok y → g y ≡ f x)
+    (before : List B) (xs : List A) (rows : List B) → each_after read before xs ≡ Ok rows → map g rows ≡ map g before ++ map f xs
+each-same read f g step before [] rows h = let same : before ≡ rows = cc in rw (← same) (sym (append-nil (map g before)))
+each-same read f g step before (x ∷ xs) rows h =
+    let row = two_steps (read before x) _ rows h in
+    each-same read f g step (before ++ row.0 ∷ []) xs rows row.2
+    ∙ rw (map-append g before (row.0 ∷ []), step before x row.0 row.1) (append_assoc (map g before) (f x ∷ []) (map f xs))
 
 -- the rows differ where each is read only if none before it is the same
 pub each-differ : {A B : Type 0} {same : B → B → Bool} (laws : IsEquivalence same) (read : List B → A → Result B Flaw)

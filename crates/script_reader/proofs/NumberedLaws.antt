@@ -1,11 +1,10 @@
 -- Numbering a draft by the map of its names.
-use Rattle.std.proofs.Common.{◌≡◌, ℕ, List, Option, Result, Ok, Err, Vec, Global, BTreeMap, refl, sym, ◌∙◌, ap}
+use Rattle.std.proofs.Common.{◌≡◌, ℕ, List, Option, Result, Ok, Vec, Global, BTreeMap, sym, ◌∙◌, ap}
 use Rattle.behaviour_lang.specs.declared.code.Behaviour.{Behaviour}
 use Rattle.script_reader.specs.declared.draft.Draft.{Draft}
 use Rattle.script_reader.specs.declared.fault.Flaw.{Flaw}
 use Rattle.script_reader.specs.declared.fault.Halt.{Halt}
 use Rattle.script_reader.specs.declared.fault.Halt.TheVariants as halts
-use Rattle.script_reader.specs.declared.script.Seed.{Seed}
 use Rattle.script_reader.specs.Found.{IsNumbering, finds}
 use Rattle.script_reader.specs.Gives.{Fails}
 use Rattle.script_reader.specs.Numbered.{names_of, number_in, numbered_behaviour, numbered_seed}

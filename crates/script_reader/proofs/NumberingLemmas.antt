@@ -1,5 +1,5 @@
 -- The numbers of names, kept in a map.
-use Rattle.std.proofs.Common.{◌≡◌, ◌==◌, ◌&&◌, ◌||◌, ◌++◌, ◌+◌, ◌<◌, ◌≤◌, Bool, true, false, not, cond, ℕ, zero, suc, List, [], ◌∷◌, length, map, take, drop, get_or, Option, Some, None, Result, Ok, Err, is_some, Vec, Global, BTreeMap, Ordering, Less, Equal, Greater, nat_cmp, true≢false, refl, sym, ◌∙◌, ap, add-one, add-zero, zero-add, arith}
+use Rattle.std.proofs.Common.{◌≡◌, ◌||◌, ◌++◌, ◌+◌, ◌<◌, ◌≤◌, Bool, true, false, not, cond, ℕ, suc, List, [], ◌∷◌, length, map, take, drop, get_or, Option, Some, Result, Err, is_some, Vec, Global, BTreeMap, Ordering, Less, Equal, Greater, nat_cmp, true≢false, refl, sym, ◌∙◌, ap, add-one, add-zero, zero-add, arith}
 use Rattle.std.proofs.lemmas.Map.Text.{is_eq-slice_cmp}
 use Rattle.std.proofs.lemmas.Slice.Eq.{bytes_eq-Decides}
 use Rattle.std.proofs.Math.Seq.{drop-cons}

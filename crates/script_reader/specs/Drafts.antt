@@ -1,5 +1,5 @@
 -- What every draft of a script keeps; only what is private cites it.
-use Rattle.std.specs.Prelude.{◌≡◌, ◌≤◌, length, Result, Ok, Err}
+use Rattle.std.specs.Prelude.{◌≤◌, length}
 use Rattle.std.specs.List.{IsDistinct}
 use Rattle.fault_plan.specs.Rows.{same_node, same_row}
 use Rattle.script_reader.specs.declared.draft.Draft.{Draft}

@@ -1,5 +1,5 @@
 -- What the code's readers answer, against the definitions.
-use Rattle.std.specs.Prelude.{◌≡◌, List, Result, Ok, Err}
+use Rattle.std.specs.Prelude.{◌≡◌, Result, Ok, Err}
 use Rattle.script_reader.specs.declared.fault.Flaw.{Flaw}
 use Rattle.script_reader.specs.declared.fault.Halt.{Halt}
 use Rattle.script_reader.specs.declared.fault.Halt.TheVariants as halts

@@ -1,10 +1,9 @@
 -- Instructions as they stand in a script. `key` is the list in which one stands, `wake` or `message`.
-use Rattle.std.specs.Prelude.{ℕ, ◌&&◌, Bool, true, false, nat_le, codes, if◌then◌else◌, List, [], ◌∷◌, length, Option, Some, None, Result, Ok, Err, option_map, is_some}
+use Rattle.std.specs.Prelude.{ℕ, ◌&&◌, Bool, nat_le, codes, if◌then◌else◌, List, [], ◌∷◌, length, Option, Some, None, Result, Ok, Err, is_some}
 use Rattle.std.specs.List.{list_all}
 use Rattle.std.specs.Str.{bytes_eq}
 use Rattle.serde_json.specs.Data.{Data}
 use Rattle.serde_json.specs.Find.{as_str}
-use Rattle.behaviour_lang.specs.declared.instr.Instr.{Instr}
 use Rattle.behaviour_lang.specs.declared.instr.Instr.TheVariants as instrs
 use Rattle.behaviour_lang.specs.declared.instr.Name.{Name}
 use Rattle.behaviour_lang.specs.declared.instr.Name.TheVariants.{Own, Message, Local}

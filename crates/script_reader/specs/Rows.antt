@@ -1,7 +1,6 @@
 -- The objects of a script. The keys of each come in the order of its table.
-use Rattle.std.specs.Prelude.{ℕ, ◌==◌, ◌&&◌, Bool, not, if◌then◌else◌, List, [], ◌∷◌, length, Result, Ok, Err}
+use Rattle.std.specs.Prelude.{ℕ, ◌==◌, not, List, [], ◌∷◌, length, Result, Ok}
 use Rattle.std.specs.List.{list_any}
-use Rattle.std.specs.Str.{bytes_eq}
 use Rattle.serde_json.specs.Data.{Data}
 use Rattle.behaviour_lang.specs.Names.{is_behaviour_name, is_local_name}
 use Rattle.fault_plan.specs.declared.crashes.CrashRow.{CrashRow}

@@ -4,6 +4,7 @@
 pub mod draft;
 mod fault;
 mod instructions;
+pub mod laws;
 mod names;
 mod numbers;
 mod read;

@@ -4,6 +4,7 @@ ghost use Rattle.serde_json.specs.View.{view};
 ghost use Rattle.script_reader.specs.Drafts.{IsSound};
 ghost use Rattle.script_reader.specs.Gives.{Gives, Tells};
 ghost use Rattle.script_reader.specs.Scripts.{Answers, numbered, script_of, told};
+ghost use Rattle.script_reader.specs.Valid.{IsScript};
 ghost use Rattle.script_reader.specs.Words.{spelled};
 
 use crate::draft::Draft;
@@ -23,7 +24,8 @@ use std::alloc::{AllocError, Global};
 /// The script that the text stands for, or its first fault. `NoMemory` may come for want of memory alone. Time in
 /// proportion to n log n for n bytes, and to their number where few rows have to differ.
 pub fn read_script(alloc: Global, bytes: &[u8]) -> Result<Script, ScriptRead>
-    ensures { Answers bytes.now result }
+    ensures answers { Answers bytes.now result }
+    ensures keeps { IfOk result (λ s. IsScript s) }
 {
     let value = match Value::from_slice(alloc, bytes) {
         Ok(value) => value,
@@ -39,7 +41,8 @@ pub fn read_script(alloc: Global, bytes: &[u8]) -> Result<Script, ScriptRead>
 /// The script that the tree stands for.
 #[tactic(auto, unfolding(crate::specs::Scripts::script_of))]
 fn script(alloc: Global, value: &Value) -> Result<Script, Halt>
-    ensures { Gives result (script_of (view value.now)) }
+    ensures gives { Gives result (script_of (view value.now)) }
+    ensures keeps { IfOk result (λ s. IsScript s) }
 {
     let draft = draft(alloc, value)?;
     numbered(alloc, draft)

@@ -1,2 +1,4 @@
 pub mod Makers
+pub mod Trees
 pub mod Texts
+pub mod Scripts

@@ -1,7 +1,10 @@
 //! The text of a generated script.
-ghost use Rattle.std.specs.Prelude.{◌≡◌, ◌<◌, ◌≤◌, ◌++◌, OnOk, string_bytes, IfOk, length, flat_map};
+ghost use Rattle.std.specs.Prelude.{◌≡◌, ◌<◌, ◌≤◌, ◌%◌, ◌++◌, OnOk, string_bytes, IfOk, IsUtf8, length, flat_map};
 ghost use Rattle.std.specs.List.{enumerate_from};
-ghost use Rattle.workload_gen.specs.Texts.{seed_text, tie_text, workload_text};
+ghost use Rattle.script_reader.specs.Scripts.{StandsFor};
+ghost use Rattle.workload_gen.specs.Makers.{makers};
+ghost use Rattle.workload_gen.specs.Scripts.{workload_script};
+ghost use Rattle.workload_gen.specs.Texts.{pieces, seed_text, tie_text, workload_text};
 
 use crate::makers::{Maker, makers};
 use crate::texts::{HEAD, MIDDLE, SEED_NODE, SEED_WAKES, TAIL, TIE_FROM, TIE_TO};
@@ -14,7 +17,8 @@ use std::fmt::Write;
 pub fn generate(alloc: Global, seed: u64, size: u32) -> Result<Octets, NoMemory>
     requires some { 1 ≤ size }
     requires in_range { size ≤ 10000 }
-    ensures { IfOk result (λ t. t ≡ workload_text seed size) }
+    ensures text { IfOk result (λ t. t ≡ workload_text seed size) }
+    ensures stands { IfOk result (λ t. StandsFor t (workload_script seed size)) }
 {
     match script_text(alloc, seed, size) {
         Ok(text) => Ok(Octets::from_vec(text.into_bytes())),
@@ -22,10 +26,10 @@ pub fn generate(alloc: Global, seed: u64, size: u32) -> Result<Octets, NoMemory>
     }
 }
 
-#[tactic(auto, unfolding(crate::specs::Texts::workload_text))]
 fn script_text(alloc: Global, seed: u64, size: u32) -> Result<String, AllocError>
     requires { size ≤ 10000 }
-    ensures { IfOk result (λ t. string_bytes t ≡ workload_text seed size) }
+    ensures text { IfOk result (λ t. string_bytes t ≡ pieces (makers (seed % 65536) size)) }
+    ensures utf8 { IfOk result (λ t. IsUtf8 (string_bytes t)) }
 {
     let makers = makers(alloc, seed, size)?;
     let mut text = String::from_str(alloc, HEAD)?;

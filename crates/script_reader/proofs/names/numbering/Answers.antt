@@ -1,6 +1,4 @@
-use Rattle.std.proofs.Common.{◌≡◌, ◌+◌, ◌≤◌, is_some, true, false, length, map, take, sym, ◌∙◌, ap, subst, rules, arith}
-use Rattle.std.specs.List.{list_any}
-use Rattle.std.specs.Str.{bytes_eq}
+use Rattle.std.proofs.Common.{◌≡◌, is_some, true, false, length, take, sym, ◌∙◌, ap, subst, arith}
 use Rattle.script_reader.specs.Found.{IsNumbering, finds}
 use Rattle.script_reader.proofs.NumberingLemmas.{known-any, name_fails, name_goes, names, names-more, numbering-push, length-names}
 use Rattle.script_reader.proofs.names.numbering.Goals as goal

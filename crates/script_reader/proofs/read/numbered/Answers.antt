@@ -1,7 +1,7 @@
-use Rattle.std.proofs.Common.{◌≡◌, Ok, sym, ◌∙◌, ap}
+use Rattle.std.proofs.Common.{Ok, ◌∙◌, ap}
 use Rattle.std.proofs.lemmas.Result.{err_from_is_err_and}
 use Rattle.script_reader.specs.Found.{finds}
-use Rattle.script_reader.specs.Numbered.{numbered_behaviour, numbered_seed}
+use Rattle.script_reader.specs.Numbered.{numbered_seed}
 use Rattle.script_reader.specs.Scripts.{numbered, whole}
 use Rattle.script_reader.specs.Walk.{◌>>=◌, each}
 use Rattle.script_reader.proofs.NumberedLaws.{behaviours_by, fails_on, numbered-map, seeds_by}

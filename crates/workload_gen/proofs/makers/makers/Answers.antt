@@ -1,7 +1,6 @@
-use Rattle.std.proofs.Common.{◌≡◌, ◌<◌, ◌%◌, ◌∷◌, [], ◌++◌, List, length, ap, subst, sym, ◌∙◌, rules, arith}
+use Rattle.std.proofs.Common.{◌≡◌, ◌%◌, ◌∷◌, [], ◌++◌, length, ap, ◌∙◌, rules}
 use Rattle.workload_gen.proofs.MakersLemmas.{begins, goes_on, is_done, length-makers}
-use Rattle.workload_gen.specs.declared.makers.Maker.{Maker}
-use Rattle.workload_gen.specs.Makers.{maker_of, makers, makers_from, number_after}
+use Rattle.workload_gen.specs.Makers.{maker_of, makers, number_after}
 use Rattle.workload_gen.proofs.makers.makers.Goals as goal
 
 pub loop-j-init : goal.loop-j-init

@@ -1,4 +1,4 @@
-use Rattle.std.proofs.Common.{◌≡◌, ◌<◌, ◌≤◌, ◌%◌, ◌-◌, ◌++◌}
+use Rattle.std.proofs.Common.{◌≡◌, ◌<◌, ◌%◌, ◌-◌, ◌++◌}
 use Rattle.workload_gen.specs.Makers.{makers, makers_from}
 use Rattle.workload_gen.proofs.makers.makers.Given as goal
 

@@ -1,4 +1,4 @@
-use Rattle.std.proofs.Common.{◌≡◌, ◌++◌, [], ◌∷◌, true, false, refl, sym, ◌∙◌, ap, not, rules}
+use Rattle.std.proofs.Common.{◌≡◌, true, false, refl, sym, ◌∙◌, ap, not, rules}
 use Rattle.script_reader.proofs.TakenLemmas.{taken-has, taken-push}
 use Rattle.script_reader.specs.Taken.{TakenName}
 use Rattle.script_reader.proofs.ties.Ties.add.Goals as goal
