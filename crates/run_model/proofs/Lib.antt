@@ -1,1 +1,4 @@
 mod RoundExamples
+mod Scripts
+mod ScheduleExamples
+mod FollowsExamples
