@@ -1,3 +1,6 @@
+pub mod RoundSteps
+pub mod RoundStages
+pub mod RoundQuiet
 mod RoundExamples
 mod Scripts
 mod ScheduleExamples

@@ -1,6 +1,6 @@
 -- The round: whatever is due is removed, told and handed on, and then each node sweeps. Each step after a history gives the
 -- history after it, and adds only events that no rule refuses. So nodes that are down do nothing.
-use Rattle.std.specs.Prelude.{ℕ, zero, suc, ◌-◌, ◌%◌, ◌==◌, Bool, false, if◌then◌else◌, List, ◌∷◌, length, is_none}
+use Rattle.std.specs.Prelude.{ℕ, zero, suc, ◌-◌, ◌%◌, ◌==◌, Bool, true, false, if◌then◌else◌, List, ◌∷◌, length, is_none}
 use Rattle.history_model.specs.declared.events.Event.{Event}
 use Rattle.history_model.specs.declared.events.Event.TheVariants.{Flush, Publish, Window, Remove, Hand, Sweep}
 use Rattle.history_model.specs.Tally.{tally}
@@ -35,17 +35,18 @@ is_flush_on m _ = false
 abbrev pub flushes_on : ℕ → List Event → ℕ
 flushes_on m h = tally (is_flush_on m) h
 
--- actor number s of node m is flushed where it can be; after every 32nd flush of m since there were so many, m publishes
+-- m publishes if its flushes beyond the past ones are a multiple of 32
 abbrev pub published : Cluster → ℕ → ℕ → List Event → List Event
 published cl m past h = if (flushes_on m h - past) % FLUSHES_PER_PUBLISH == 0 then tried cl (Publish m) h else h
 
+-- actor number s of node m is flushed where it can be, and then m may publish
 abbrev pub flushed : Cluster → ℕ → ℕ → ℕ → List Event → List Event
 flushed cl m past s h =
     if is_none (refusal cl (Flush (record { node = m; serial = s })) h)
     then published cl m past (Flush (record { node = m; serial = s }) ∷ h)
     else h
 
--- each actor of node m is flushed where it can be, and then m publishes what is left in its queue
+-- so is each actor of node m, with the flushes before the round as the past ones; then m publishes what is left in its queue
 abbrev pub flushed_on : Cluster → ℕ → List Event → List Event
 flushed_on cl m h = tried cl (Publish m) (each (flushed cl m (flushes_on m h)) (births m h) h)
 
@@ -70,3 +71,13 @@ sweeps cl h = each (λ m. tried cl (Sweep m)) cl.nodes h
 -- the whole round
 abbrev pub round : Cluster → List Event → List Event
 round cl h = sweeps cl (hands cl (flushes cl (windows cl (removals cl h))))
+
+-- the forms of events of which a round is made: no actor acts in them, and they move no message
+abbrev pub is_of_round : Event → Bool
+is_of_round (Remove m n) = true
+is_of_round (Window m s) = true
+is_of_round (Flush a) = true
+is_of_round (Publish m) = true
+is_of_round (Hand m o k) = true
+is_of_round (Sweep m) = true
+is_of_round _ = false
