@@ -61,7 +61,7 @@ busy-born cl (e ∷ p) legal a busy = born-grows a (e ∷ []) p (busy-born cl p 
 
 -- ---- rules
 
-none-broken : (cs : List Check) → AreKept cs → first_broken cs ≡ None
+pub none-broken : (cs : List Check) → AreKept cs → first_broken cs ≡ None
 none-broken [] kept = refl
 none-broken (c ∷ cs) kept = rw kept.0 (none-broken cs kept.1)
 

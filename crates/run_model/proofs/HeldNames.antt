@@ -133,18 +133,18 @@ parent-born t a (e ∷ p) parent = born-grows a (e ∷ []) p (parent-born t a p 
 alike : (c a : Actor) → c.node ≡ a.node → c.serial ≡ a.serial → c ≡ a
 alike c a node serial = λ i. record { node = node i; serial = serial i }
 
--- who is born after a spawn is the child, or was born before
-born-before : (b a : Actor) (p : List Event) → same_actor (newborn b.node p) a ≡ false → IsTrue (is_born a (Spawn b ∷ p)) → IsTrue (is_born a p)
-born-before b a p other born =
-    elim (b.node == a.node) as (λ v. (b.node == a.node) ≡ v → IsTrue (nat_lt a.serial (if v then births a.node p + 1 else births a.node p)) → IsTrue (is_born a p)) [
+-- who is born after a birth on node n is the newborn, or was born before
+pub born-before : (n : ℕ) (a : Actor) (p : List Event) → same_actor (newborn n p) a ≡ false → IsTrue (is_born a (Seed n ∷ p)) → IsTrue (is_born a p)
+born-before n a p other born =
+    elim (n == a.node) as (λ v. (n == a.node) ≡ v → IsTrue (nat_lt a.serial (if v then births a.node p + 1 else births a.node p)) → IsTrue (is_born a p)) [
       | true ↦ λ same later. lt-ltb a.serial (births a.node p) (below same (ltb-true a.serial (births a.node p + 1) later))
       | false ↦ λ _ earlier. earlier
     ] refl born
   where
-    below : (b.node == a.node) ≡ true → a.serial < births a.node p + 1 → a.serial < births a.node p
+    below : (n == a.node) ≡ true → a.serial < births a.node p + 1 → a.serial < births a.node p
     below same le =
-        let node = eqb-true b.node a.node same in
-        let apart : births a.node p ≡ a.serial → ⊥ = λ serial. false≢true (sym other ∙ (same_actor-decides (newborn b.node p) a).1 (alike (newborn b.node p) a node (ap (λ n. births n p) node ∙ serial))) in
+        let node = eqb-true n a.node same in
+        let apart : births a.node p ≡ a.serial → ⊥ = λ serial. false≢true (sym other ∙ (same_actor-decides (newborn n p) a).1 (alike (newborn n p) a node (ap (λ k. births k p) node ∙ serial))) in
         grind (arith, le, apart)
 
 and-false : (v : Bool) → (v && false) ≡ false
@@ -275,14 +275,14 @@ holds-next s (Take b) p legal due all a born =
 holds-next s (Spawn b) p legal due all a born =
     let parent_born = (legal-kept (cluster_of s) (Spawn b) p legal).0 in
     let now = acts_on (Some (newborn b.node p)) (doing s a p) in
-    pick (same_actor b a) (Held s p a (Spawn b)) now _
+    pick (same_actor b a) (Held s p a (Spawn b)) now (elim (same_actor (newborn b.node p) a) as (λ _. Doing) [ true ↦ as_child (doing s b p) a | false ↦ doing s a p ])
     (λ same.
     let equal = same_actor-equal b a same in
     let a_born = subst (λ x. IsTrue (is_born x p)) equal parent_born in
     subst (λ x. (let later = acts_on (Some (newborn x.node p)) (doing s a p) in HoldsNames (cluster_of s) a later.turn (Spawn x ∷ p))) (sym equal) (spawns s p a (doing s a p) legal.1 a_born (all a a_born)))
     (λ apart. pick (same_actor (newborn b.node p) a) (Held s p a (Spawn b)) (as_child (doing s b p) a) (doing s a p)
     (λ child. born_child s p a b (doing s b p) legal.1 child)
-    (λ other. others s p a (Spawn b) (doing s a p) (λ t. refl) (λ t. rw (other, and-false (same_actor b t)) refl) (λ r. r) (all a (born-before b a p other born))))
+    (λ other. others s p a (Spawn b) (doing s a p) (λ t. refl) (λ t. rw (other, and-false (same_actor b t)) refl) (λ r. r) (all a (born-before b.node a p other born))))
 holds-next s (Send b u refs) p legal due all a born =
     pick (same_actor b a) (Held s p a (Send b u refs)) (acts_on None (doing s a p)) (doing s a p)
     (λ same. acts_alone s p a (Send b u refs) (doing s a p) (λ t. refl) (λ t. refl) (λ r. r) (all a born))

@@ -9,3 +9,7 @@ pub mod NextLaws
 pub mod TurnLaws
 pub mod HeldNames
 pub mod ActsLegal
+pub mod Beginnings
+pub mod Runs
+pub mod TurnsDone
+pub mod Scheduled
