@@ -16,7 +16,7 @@ use Rattle.behaviour_lang.specs.declared.act.Act.{Act}
 use Rattle.behaviour_lang.specs.declared.act.Act.TheVariants as acts
 use Rattle.behaviour_lang.proofs.ActLaws.{turn_is_its_due_act}
 use Rattle.script_reader.specs.Valid.{Scripted}
-use Rattle.run_model.specs.Doing.{Doing, acts_on, cluster_of, doing, event_of}
+use Rattle.run_model.specs.Doing.{Doing, acts_on, as_child, cluster_of, doing, event_of}
 use Rattle.run_model.specs.Schedule.{children}
 use Rattle.run_model.proofs.Runs.{IsSound, sound-due, sound-next}
 use Rattle.run_model.proofs.HeldNames.{IsDue}
@@ -79,7 +79,8 @@ module _ (s : Scripted) (a : Actor) (act : Act) (done : List Act) (again : Does 
       let d = doing s a h in
       let first = first-same (acts.Spawn b) act _ _ e in
       let rest = rest-same (acts.Spawn b) act _ _ e in
-      let now : doing s a (Spawn a ∷ h) ≡ acts_on (Some (newborn a.node h)) d = picked (same_actor a a) _ _ (same_actor-refl a) in
+      let other = elim (same_actor (newborn a.node h) a) as (λ _. Doing) [ true ↦ as_child d a | false ↦ d ] in
+      let now : doing s a (Spawn a ∷ h) ≡ acts_on (Some (newborn a.node h)) d = picked (same_actor a a) (acts_on (Some (newborn a.node h)) d) other (same_actor-refl a) in
       let count : births a.node (Spawn a ∷ h) ≡ births a.node h + 1 = ap (λ v. if v then births a.node h + 1 else births a.node h) (eqb-refl a.node) in
       let same : children a k (Spawn a ∷ h) ≡ map (λ i. record { node = a.node; serial = i }) (range_with_len (births a.node h + 1) k) = ap (λ n. map (λ i. record { node = a.node; serial = i }) (range_with_len n k)) count in
       let sound = sound-next s (Spawn a) h busy.0 (step-legal (Some (acts.Spawn b)) next) (b, next) in
