@@ -2,3 +2,14 @@ pub mod RoundSteps
 pub mod RoundStages
 pub mod RoundQuiet
 mod RoundExamples
+mod Scripts
+mod ScheduleExamples
+mod FollowsExamples
+pub mod NextLaws
+pub mod TurnLaws
+pub mod HeldNames
+pub mod ActsLegal
+pub mod Beginnings
+pub mod Runs
+pub mod TurnsDone
+pub mod Scheduled

@@ -1,0 +1,8 @@
+use Rattle.run_model.proofs.Scheduled.{follows-legal, unfinished-legal}
+use Rattle.run_model.proofs.run_laws.runs_are_legal.Goals as goal
+
+pub returns-clause-unfinished : goal.returns-clause-unfinished
+returns-clause-unfinished c = unfinished-legal
+
+pub returns-clause-follows : goal.returns-clause-follows
+returns-clause-follows c = follows-legal

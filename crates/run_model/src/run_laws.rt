@@ -1,0 +1,44 @@
+//! The laws of runs and of the fixed schedule, in all scripts. Each function does nothing, and its contract is the law.
+ghost use Rattle.std.specs.Prelude.{◌≡◌, ℕ, true, List, None};
+ghost use Rattle.crgc_ids.specs.Actor.{Actor};
+ghost use Rattle.history_model.specs.declared.events.Event.{Event};
+ghost use Rattle.history_model.specs.Legal.{IsLegal, refusal};
+ghost use Rattle.history_model.specs.State.{is_busy, is_up};
+ghost use Rattle.script_reader.specs.Valid.{Scripted};
+ghost use Rattle.run_model.specs.Doing.{beginning, cluster_of, due};
+ghost use Rattle.run_model.specs.Follows.{Follows, IsRun, IsUnfinished, is_allowed};
+ghost use Rattle.run_model.specs.Planned.{crash_due};
+ghost use Rattle.run_model.specs.Schedule.{IsFixed, schedule};
+
+/// After so many ended turns the fixed schedule makes a round.
+pub const TURNS_PER_ROUND: usize = 64;
+
+/// The fixed schedule gives one history at most.
+pub fn the_fixed_history_is_unique()
+    ensures { (s : Scripted) (h g : List Event) → IsFixed s h → IsFixed s g → h ≡ g }
+{}
+
+/// The acts of turns are legal: in each run of a script no rule refuses what is due next in the turn of a busy actor on a node
+/// that is up, be it an act or the rest; and it is allowed next, unless a crash is due. So who makes the acts that are due, one
+/// by one, needs no answer for an illegal one.
+pub fn acts_of_turns_are_legal()
+    ensures legal { (s : Scripted) (a : Actor) (h : List Event) → IsLegal (cluster_of s) (beginning s) → IsRun s h
+        → is_busy a h ≡ true → is_up a.node h ≡ true → refusal (cluster_of s) (due s a h) h ≡ None }
+    ensures allowed { (s : Scripted) (a : Actor) (h : List Event) → IsLegal (cluster_of s) (beginning s) → IsRun s h
+        → is_busy a h ≡ true → is_up a.node h ≡ true → crash_due s h ≡ None → is_allowed s (due s a h) h ≡ true }
+{}
+
+/// The history of each run is legal, also while its closing round is made and where that has closed it.
+pub fn runs_are_legal()
+    ensures unfinished { (s : Scripted) (h : List Event) → IsLegal (cluster_of s) (beginning s) → IsUnfinished s h
+        → IsLegal (cluster_of s) h }
+    ensures follows { (s : Scripted) (h : List Event) → IsLegal (cluster_of s) (beginning s) → Follows s h
+        → IsLegal (cluster_of s) h }
+{}
+
+/// The fixed schedule makes whole turns without a look at the rules, and each history that it makes is legal.
+pub fn the_fixed_schedule_is_legal()
+    ensures made { (s : Scripted) (k : ℕ) → IsLegal (cluster_of s) (beginning s) → IsLegal (cluster_of s) (schedule s k) }
+    ensures fixed { (s : Scripted) (h : List Event) → IsLegal (cluster_of s) (beginning s) → IsFixed s h
+        → IsLegal (cluster_of s) h }
+{}
