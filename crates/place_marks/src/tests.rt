@@ -1,0 +1,62 @@
+//! A graph of three places, in which marks go as far as positive edges lead.
+ghost use Rattle.std.specs.Prelude.{◌==◌, cond, true, false, None, Some, [], ◌∷◌};
+
+use crate::{Marks, PlaceGraph, mark};
+use std::test::Fail;
+
+/// An edge from place 0 to place 1 that is positive, and one from 1 to 2 that is not. The start is place 0, or none.
+struct Row {
+    starts: bool,
+}
+
+impl PlaceGraph for Row {
+    ghost graph = { λ r. record {
+      places = 3;
+      is_start = λ p. cond (p == 0) r.starts false;
+      targets = λ p. cond (p == 0) (Some 1 ∷ []) (cond (p == 1) (None ∷ []) []);
+      owners = λ p. cond (p == 1) (Some 0 ∷ []) (cond (p == 2) (None ∷ []) []);
+    } };
+
+    fn place_count(&self) -> u32 {
+        3
+    }
+
+    fn is_start(&self, place: u32) -> bool {
+        place == 0 && self.starts
+    }
+
+    fn count_from(&self, place: u32) -> usize {
+        if place < 2 { 1 } else { 0 }
+    }
+
+    fn target(&self, place: u32, _index: usize) -> Option<u32> {
+        if place == 0 { Some(1) } else { None }
+    }
+
+    fn count_to(&self, place: u32) -> usize {
+        if place == 0 { 0 } else { 1 }
+    }
+
+    fn owner(&self, place: u32, _index: usize) -> Option<u32> {
+        if place == 1 { Some(0) } else { None }
+    }
+
+    fn has_step(&self, owner: u32, target: u32) -> bool {
+        owner == 0 && target == 1
+    }
+}
+
+#[test]
+fn marks_go_along_positive_edges(rt: HostRuntime) -> Result<(), Fail> {
+    let mut marks = Marks::new(rt.alloc());
+    marks.reserve(&Row { starts: true })?;
+    if marks.room() < 3 {
+        return Err(Fail::from("no room"));
+    }
+    mark(&Row { starts: true }, &mut marks);
+    let marked = (marks.is_marked(0), marks.is_marked(1), marks.is_marked(2));
+    assert_eq!(rt; marked, (true, true, false));
+    mark(&Row { starts: false }, &mut marks);
+    assert_eq!(rt; (marks.is_marked(0), marks.is_marked(1)), (false, false));
+    Ok(())
+}
