@@ -6,4 +6,5 @@ pub mod InstructionLaws
 pub mod DraftLaws
 pub mod KeptLaws
 pub mod ReadLaws
+mod ScriptExamples
 pub mod NumberedLaws
