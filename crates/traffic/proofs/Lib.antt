@@ -1,0 +1,3 @@
+pub mod AdmissionLemmas
+pub mod LiveSums
+pub mod SumLemmas

@@ -1,0 +1,4 @@
+pub mod Changes
+pub mod Loads
+pub mod Standing
+pub mod TrafficState
