@@ -1,3 +1,11 @@
 pub mod AdmissionLemmas
+pub mod Beginning
+pub mod KeepingActors
+pub mod KeepingLinks
+pub mod KeepingMessages
 pub mod LiveSums
+pub mod Outcomes
+pub mod ReadingLemmas
+pub mod ReadySteps
 pub mod SumLemmas
+pub mod TableSteps

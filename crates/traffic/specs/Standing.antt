@@ -1,7 +1,8 @@
 -- What the traffic stands for: what is true of it in a history.
-use Rattle.std.specs.Prelude.{◌≡◌, ℕ, Bool, not, List, ◌∷◌, Option, Some, None}
+use Rattle.std.specs.Prelude.{◌≡◌, ◌≤◌, ℕ, Bool, true, false, not, List, ◌∷◌, Option, Some, None}
 use Rattle.crgc_ids.specs.Actor.{Actor}
 use Rattle.history_model.specs.declared.events.Event.{Event}
+use Rattle.history_model.specs.declared.events.Event.TheVariants.{Seed, Tie, Wake, Take, Spawn, Send, Drop, Retire, Rest, Flush, Publish, Window, Admit, Lose, Repeat, Crash, Remove, Hand, Sweep}
 use Rattle.history_model.specs.Cluster.{Cluster}
 use Rattle.history_model.specs.Legal.{IsLegal}
 use Rattle.history_model.specs.Live.{is_ready, live_at}
@@ -17,6 +18,7 @@ use Rattle.traffic.specs.TrafficState.{TrafficState, link_of}
 -- messages that wait for each actor, and who may take one
 pub record IsTrafficOf (cl : Cluster) (h : List Event) (t : TrafficState) : Type 0 where
   pub nodes : t.nodes ≡ cl.nodes
+  pub few : cl.nodes ≤ 16
   pub up : (n : ℕ) → up_in t.loads n ≡ is_up n h
   pub live : (n : ℕ) → live_in t.loads n ≡ live_at cl n h
   pub links : (s d : ℕ) → IsLink s d → StandsFor s d h (link_of t s d)
@@ -39,3 +41,25 @@ TellsIdle idle (Some a) h = idle ≡ not (is_busy a h)
 -- the same for an event by which a message may come to the actor, where it is told whether that one is idle
 abbrev pub KeepsIfTold : Bool → Option Actor → Event → TrafficState → TrafficState → Type 0
 KeepsIfTold idle to e old new = (cl : Cluster) (p : List Event) → TellsIdle idle to p → Keeps cl e p old new
+
+-- the event touches nothing of the traffic
+abbrev pub is_beside : Event → Bool
+is_beside (Seed n) = true
+is_beside (Tie a b) = true
+is_beside (Spawn a) = true
+is_beside (Drop a b) = true
+is_beside (Retire a) = true
+is_beside (Flush a) = true
+is_beside (Publish n) = true
+is_beside (Hand m o k) = true
+is_beside (Sweep m) = true
+is_beside (Wake a) = false
+is_beside (Take a) = false
+is_beside (Rest a) = false
+is_beside (Send f t refs) = false
+is_beside (Window d s) = false
+is_beside (Admit s d k) = false
+is_beside (Lose s d k) = false
+is_beside (Repeat s d k) = false
+is_beside (Crash n) = false
+is_beside (Remove d s) = false

@@ -1,14 +1,27 @@
 //! The traffic between the actors of a cluster.
-ghost use Rattle.std.specs.Prelude.{◌≡◌, ◌≢◌, ◌+◌, ◌<◌, ◌≤◌, ◌^◌, ◌&&◌, not, Bool, IfNone, IfOk, IfSome, None, OnErr, OnOk, OnSome, Some, length, slice_get, true};
+ghost use Rattle.std.specs.Prelude.{◌≡◌, ◌≢◌, ◌+◌, ◌<◌, ◌≤◌, ◌^◌, ◌&&◌, not, ℕ, [], Bool, IfNone, IfOk, IfSome, List, None, OnErr, OnOk, OnSome, Some, length, slice_get, sum_by, true};
+ghost use Rattle.std.specs.Option.{option_map};
+ghost use Rattle.crgc_ids.specs.Nodes.{nodes_below};
+ghost use Rattle.history_model.specs.declared.events.Event.{Event};
 ghost use Rattle.history_model.specs.declared.events.Event.TheVariants.{Admit, Crash, Lose, Remove, Repeat, Rest, Send, Take, Wake, Window as WindowEvent};
+ghost use Rattle.history_model.specs.Cluster.{Cluster};
+ghost use Rattle.history_model.specs.Graph.{rising_actors};
+ghost use Rattle.history_model.specs.Live.{live_count};
+ghost use Rattle.history_model.specs.Messages.{Message, copies, sent, waiting};
+ghost use Rattle.history_model.specs.State.{is_up};
+ghost use Rattle.history_model.specs.Streams.{window};
+ghost use Rattle.history_model.specs.Tells.{fact_names};
 ghost use Rattle.ingress_gateway.specs.Gate.{IsWindowOf};
+ghost use Rattle.ingress_gateway.specs.Pending.{named_count};
 ghost use Rattle.link_table.specs.LinkState.{FitsGate};
-ghost use Rattle.link_table.specs.Piled.{copies_in};
+ghost use Rattle.link_table.specs.Piled.{IsLowest, copies_in, pile_at};
+ghost use Rattle.link_table.specs.Standing.{CountsSince, is_link_open};
 ghost use Rattle.mailboxes.specs.Mail.{mail_of};
-ghost use Rattle.ready_actors.specs.Ready.{has_actor};
+ghost use Rattle.ready_actors.specs.Ready.{IsAbove, IsLowestOf, IsOfNone, has_actor};
 ghost use Rattle.traffic.specs.Changes.{AdmitsCopy, ClosesLink, CutsWindow, Delivers, HasRoomFor, IsAsBefore, IsNewTraffic, LosesCopy, NodeGoesDown, RepeatsCopy, Rests, SendsMessage, SendsOnLink, TakesMessage, Wakes};
-ghost use Rattle.traffic.specs.Loads.{live_in};
-ghost use Rattle.traffic.specs.Standing.{AlwaysKeeps, KeepsIfTold};
+ghost use Rattle.traffic.specs.Loads.{live_in, up_in};
+ghost use Rattle.traffic.specs.Readings.{IsHead, IsNextReady};
+ghost use Rattle.traffic.specs.Standing.{AlwaysKeeps, IsTrafficOf, KeepsIfTold};
 ghost use Rattle.traffic.specs.TrafficState.{link_of, message_on, pile_on, recipient_on};
 
 use crate::loads::NodeLoads;
@@ -48,7 +61,8 @@ impl Traffic {
     /// No message was sent, and all nodes are up.
     pub fn new(alloc: Global, nodes: u8) -> Result<Traffic, NoMemory>
         requires { nodes ≤ 16 }
-        ensures { IfOk result (λ t. IsNewTraffic t nodes) }
+        ensures fresh { IfOk result (λ t. IsNewTraffic t nodes) }
+        ensures stands { IfOk result (λ t. (cl : Cluster) → cl.nodes ≡ nodes → IsTrafficOf cl [] t) }
     {
         let Ok(links) = LinkTable::new(alloc) else {
             return Err(NoMemory);
@@ -76,6 +90,7 @@ impl Traffic {
         requires live { live_in self.old.loads to.node + 1 < 2 ^ 32 }
         ensures number { IfOk result (λ number. (from.node ≡ to.node → number ≡ None) × ((from.node ≡ to.node → ⊥) → number ≡ Some (link_of self.old from.node to.node).sent)) }
         ensures ok { OnOk result (SendsMessage self.old self.new from to refs idle) }
+        ensures kept { OnOk result (KeepsIfTold idle (Some to) (Send from to refs) self.old self.new) }
         ensures err { OnErr result (IsAsBefore self.old self.new) }
     {
         if from.node() == to.node() {
@@ -129,6 +144,7 @@ impl Traffic {
         requires apart { from ≢ at }
         requires some { 0 < copies_in (pile_on self.old from at number) }
         ensures change { LosesCopy self.old self.new from at number }
+        ensures kept { AlwaysKeeps (Lose from at number) self.old self.new }
     {
         let before = self.links.link(from, at).under_way();
         self.links.lose(from, at, number);
@@ -142,6 +158,7 @@ impl Traffic {
         requires some { 0 < copies_in (pile_on self.old from at number) }
         requires fits { copies_in (pile_on self.old from at number) + 1 < 2 ^ 32 }
         ensures change { RepeatsCopy self.old self.new from at number }
+        ensures kept { AlwaysKeeps (Repeat from at number) self.old self.new }
     {
         self.links.repeat(from, at, number);
     }
@@ -174,6 +191,7 @@ impl Traffic {
         requires fits { FitsGate (link_of self.old from at).gate (message_on self.old from at number) }
         ensures to { IfOk result (λ to. to ≡ recipient_on self.old from at number) }
         ensures ok { OnOk result (AdmitsCopy self.old self.new from at number idle) }
+        ensures kept { OnOk result (KeepsIfTold idle (recipient_on self.old from at number) (Admit from at number) self.old self.new) }
         ensures err { OnErr result (IsAsBefore self.old self.new) }
     {
         let Some(to) = self.recipient(from, at, number) else {
@@ -195,7 +213,9 @@ impl Traffic {
     pub fn take(&mut self, actor: ActorId) -> RefList
         requires { 0 < length (mail_of self.old.boxes actor) }
         ensures first { slice_get (mail_of self.old.boxes actor) 0 ≡ Some result }
+        ensures taken { (cl : Cluster) (h : List Event) → IsTrafficOf cl h self.old → option_map (λ (m : Message). m.refs) (slice_get (waiting actor h) 0) ≡ Some result }
         ensures change { TakesMessage self.old self.new actor }
+        ensures kept { AlwaysKeeps (Take actor) self.old self.new }
     {
         let refs = self.boxes.pop(actor).unwrap();
         self.ready.take_out(actor);
@@ -206,6 +226,7 @@ impl Traffic {
     /// The actor becomes busy of itself: it takes no message until it rests. Logarithmic time in the number of actors.
     pub fn wake(&mut self, actor: ActorId)
         ensures change { Wakes self.old self.new actor }
+        ensures kept { AlwaysKeeps (Wake actor) self.old self.new }
     {
         self.ready.take_out(actor);
     }
@@ -214,6 +235,7 @@ impl Traffic {
     /// number of actors.
     pub fn rest(&mut self, actor: ActorId) -> Result<(), NoMemory>
         ensures ok { OnOk result (Rests self.old self.new actor) }
+        ensures kept { OnOk result (AlwaysKeeps (Rest actor) self.old self.new) }
         ensures err { OnErr result (IsAsBefore self.old self.new) }
     {
         let waits = 0 < self.boxes.waiting(actor);
@@ -228,6 +250,7 @@ impl Traffic {
     /// for each of its actors that might take a message.
     pub fn crash(&mut self, node: NodeId)
         ensures change { NodeGoesDown self.old self.new node }
+        ensures kept { AlwaysKeeps (Crash node) self.old self.new }
     {
         self.links.crash(node);
         self.ready.leave(node);
@@ -240,7 +263,9 @@ impl Traffic {
         requires apart { from ≢ at }
         requires open { (link_of self.old from at).is_open ≡ true }
         ensures some { IfSome result (IsWindowOf (link_of self.old from at).gate) }
+        ensures counts { IfSome result (λ w. (cl : Cluster) (h : List Event) → IsTrafficOf cl h self.old → CountsSince from at h w) }
         ensures change { OnSome result (CutsWindow self.old self.new from at) }
+        ensures kept { OnSome result (AlwaysKeeps (WindowEvent at from) self.old self.new) }
         ensures admitted { OnSome result (0 < length (link_of self.old from at).gate.messages) }
         ensures none { IfNone result (length (link_of self.old from at).gate.messages ≡ 0) }
         ensures unchanged { IfNone result (IsAsBefore self.old self.new) }
@@ -255,11 +280,95 @@ impl Traffic {
         requires apart { gone ≢ at }
         requires open { (link_of self.old gone at).is_open ≡ true }
         ensures window { IsWindowOf (link_of self.old gone at).gate result }
+        ensures counts { (cl : Cluster) (h : List Event) → IsTrafficOf cl h self.old → CountsSince gone at h result }
         ensures change { ClosesLink self.old self.new gone at }
+        ensures kept { AlwaysKeeps (Remove at gone) self.old self.new }
     {
         let under_way = self.links.link(gone, at).under_way();
         self.loads.take_off(at, under_way);
         self.links.close(at, gone)
+    }
+
+    /// How many messages wait for the actor. Logarithmic time in the number of actors.
+    pub fn mail(&self, actor: ActorId) -> usize
+        ensures mail { result ≡ length (mail_of self.now.boxes actor) }
+        ensures stands { (cl : Cluster) (h : List Event) → IsTrafficOf cl h self.now → result ≡ length (waiting actor h) }
+    {
+        self.boxes.waiting(actor)
+    }
+
+    /// How many copies of the number are on the link, while it is open; else 0. Logarithmic time in the numbers that have a
+    /// copy.
+    pub fn copies(&self, from: NodeId, at: NodeId, number: u32) -> u32
+        requires { from ≢ at }
+        ensures pile { result ≡ copies_in (pile_on self.now from at number) }
+        ensures stands { (cl : Cluster) (h : List Event) → IsTrafficOf cl h self.now → is_link_open from at h ≡ true → result ≡ copies from at number h }
+    {
+        self.links.link(from, at).copies(number)
+    }
+
+    /// Whether what is on the link can be admitted: the node at its end is up, and has not removed the other.
+    pub fn is_open(&self, from: NodeId, at: NodeId) -> bool
+        requires { from ≢ at }
+        ensures link { result ≡ (link_of self.now from at).is_open }
+        ensures stands { (cl : Cluster) (h : List Event) → IsTrafficOf cl h self.now → result ≡ is_link_open from at h }
+    {
+        self.links.link(from, at).is_open()
+    }
+
+    /// How many messages were sent on the link.
+    pub fn sent(&self, from: NodeId, at: NodeId) -> u32
+        requires { from ≢ at }
+        ensures link { result ≡ (link_of self.now from at).sent }
+        ensures stands { (cl : Cluster) (h : List Event) → IsTrafficOf cl h self.now → result ≡ length (sent from at h) }
+    {
+        self.links.link(from, at).sent()
+    }
+
+    /// The lowest number of which a copy is on the link, while it is open; None exactly where there is none. Logarithmic time
+    /// in the numbers that have a copy.
+    pub fn head(&self, from: NodeId, at: NodeId) -> Option<u32>
+        requires { from ≢ at }
+        ensures some { IfSome result (IsLowest (link_of self.now from at).piles) }
+        ensures none { IfNone result ((k : ℕ) → pile_on self.now from at k ≡ None) }
+        ensures stands { (cl : Cluster) (h : List Event) → IsTrafficOf cl h self.now → IsHead from at h result }
+    {
+        self.links.link(from, at).head()
+    }
+
+    /// How many different actors the next window of the link will name.
+    pub fn named(&self, from: NodeId, at: NodeId) -> usize
+        requires { from ≢ at }
+        ensures link { result ≡ named_count (link_of self.now from at).gate.messages (link_of self.now from at).gate.carried }
+        ensures stands { (cl : Cluster) (h : List Event) → IsTrafficOf cl h self.now → result ≡ length (rising_actors (fact_names (window from at h))) }
+    {
+        self.links.link(from, at).named()
+    }
+
+    /// The lowest actor that may take a message, of those above the one that is given; None exactly where there is none.
+    /// Logarithmic time in the number of actors.
+    pub fn next_ready(&self, after: Option<ActorId>) -> Option<ActorId>
+        ensures some { IfSome result (IsLowestOf self.now.ready (IsAbove after)) }
+        ensures none { IfNone result (IsOfNone self.now.ready (IsAbove after)) }
+        ensures stands { (cl : Cluster) (h : List Event) → IsTrafficOf cl h self.now → IsNextReady h after result }
+    {
+        self.ready.next(after)
+    }
+
+    /// How many messages are live. Constant time.
+    pub fn live_count(&self) -> u64
+        ensures loads { result ≡ sum_by (λ n. live_in self.now.loads n) (nodes_below self.now.nodes) }
+        ensures stands { (cl : Cluster) (h : List Event) → IsTrafficOf cl h self.now → result ≡ live_count cl h }
+    {
+        self.loads.total(self.nodes)
+    }
+
+    /// Whether the node is up.
+    pub fn is_up(&self, node: NodeId) -> bool
+        ensures loads { result ≡ up_in self.now.loads node }
+        ensures stands { (cl : Cluster) (h : List Event) → IsTrafficOf cl h self.now → result ≡ is_up node h }
+    {
+        self.loads.is_up(node)
     }
 
     /// A copy of a number that was admitted before.
