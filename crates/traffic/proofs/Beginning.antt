@@ -1,5 +1,5 @@
--- The traffic at the beginning.
-use Rattle.std.proofs.Common.{◌≡◌, ◌≤◌, ◌==◌, ℕ, Bool, true, false, cond, [], refl, sym, ◌∙◌, ap, arith}
+-- The traffic at the beginning, and where nothing happened.
+use Rattle.std.proofs.Common.{◌≡◌, ◌≤◌, ◌==◌, ℕ, Bool, true, false, cond, [], refl, sym, ◌∙◌, ap, arith, subst, List}
 use Rattle.std.proofs.lemmas.Bool.{le-ltb}
 use Rattle.crgc_ids.specs.Nodes.{nodes_below}
 use Rattle.history_model.specs.Cluster.{Cluster}
@@ -12,7 +12,9 @@ use Rattle.link_table.specs.Piled.{kept_count, pile_at}
 use Rattle.link_table.specs.Standing.{StandsFor, envelope_at, pile_with}
 use Rattle.mailboxes.specs.Mail.{mail_of}
 use Rattle.ready_actors.specs.Ready.{has_actor}
-use Rattle.traffic.specs.Changes.{IsNewTraffic}
+use Rattle.history_model.specs.declared.events.Event.{Event}
+use Rattle.traffic.specs.Changes.{IsAsBefore, IsNewTraffic}
+use Rattle.traffic.specs.Loads.{Loads, live_in, up_in}
 use Rattle.traffic.specs.Standing.{IsTrafficOf}
 use Rattle.traffic.specs.TrafficState.{TrafficState, link_of}
 
@@ -57,4 +59,16 @@ begins cl t n same few fresh = record {
   links = λ s d link. new-stands s d (link_of t s d) (fresh.links s d link);
   mail = λ a. ap (λ boxes. mail_of boxes a) fresh.empty.0;
   ready = λ a. ap (λ actors. has_actor actors a) fresh.empty.1;
+}
+
+-- what is as before stands as before
+pub as-before : (cl : Cluster) (h : List Event) (old new : TrafficState) → IsAsBefore old new → IsTrafficOf cl h old → IsTrafficOf cl h new
+as-before cl h old new same stands = record {
+  nodes = same.nodes.0 ∙ stands.nodes;
+  few = stands.few;
+  up = λ n. ap (λ (l : Loads). up_in l n) same.nodes.1 ∙ stands.up n;
+  live = λ n. ap (λ (l : Loads). live_in l n) same.nodes.1 ∙ stands.live n;
+  links = λ s d link. subst (StandsFor s d h) (sym (same.links s d link)) (stands.links s d link);
+  mail = λ a. same.mail a ∙ stands.mail a;
+  ready = λ a. same.ready a ∙ stands.ready a;
 }

@@ -49,7 +49,7 @@ pub record IsArrival (e : Event) (p : List Event) (m : Message) : Type 0 where
   pub node_up : is_up m.to.node p ≡ true
 
 -- it waits last for its recipient, and no other mail changes
-arrives-last : (cl : Cluster) (e : Event) (p : List Event) (m : Message) → IsLegal cl p → IsArrival e p m → waiting m.to (e ∷ p) ≡ waiting m.to p ++ m ∷ []
+pub arrives-last : (cl : Cluster) (e : Event) (p : List Event) (m : Message) → IsLegal cl p → IsArrival e p m → waiting m.to (e ∷ p) ≡ waiting m.to p ++ m ∷ []
 arrives-last cl e p m legal comes =
     waiting-admitted cl e p legal m.to (comes.one.1 m.to) ∙ ap (λ ms. waiting m.to p ++ filter (is_to m.to) ms) comes.one.0
     ∙ ap (λ v. waiting m.to p ++ cond v (m ∷ []) []) (same_actor-refl m.to)
@@ -60,14 +60,14 @@ arrives-elsewhere cl e p m legal comes a other =
     ∙ ap (λ v. waiting a p ++ cond v (m ∷ []) []) other ∙ append-nil (waiting a p)
 
 -- one message more waits at its node, and as many as before elsewhere
-waits-more : (cl : Cluster) (e : Event) (p : List Event) (m : Message) → IsLegal cl p → IsArrival e p m → waiting_at m.to.node (e ∷ p) ≡ waiting_at m.to.node p + 1
+pub waits-more : (cl : Cluster) (e : Event) (p : List Event) (m : Message) → IsLegal cl p → IsArrival e p m → waiting_at m.to.node (e ∷ p) ≡ waiting_at m.to.node p + 1
 waits-more cl e p m legal comes =
     let b = m.to in
     let changed = waiting_at-changed b (e ∷ p) p (comes.births b.node) comes.born (λ s apart. ap length (arrives-elsewhere cl e p m legal comes (record { node = b.node; serial = s }) (another b s apart))) in
     let longer = ap length (arrives-last cl e p m legal comes) ∙ length-append (waiting b p) (m ∷ []) in
     omega (arith, changed, longer)
 
-waits-same : (cl : Cluster) (e : Event) (p : List Event) (m : Message) → IsLegal cl p → IsArrival e p m → (n : ℕ) → n ≢ m.to.node → waiting_at n (e ∷ p) ≡ waiting_at n p
+pub waits-same : (cl : Cluster) (e : Event) (p : List Event) (m : Message) → IsLegal cl p → IsArrival e p m → (n : ℕ) → n ≢ m.to.node → waiting_at n (e ∷ p) ≡ waiting_at n p
 waits-same cl e p m legal comes n apart =
     waiting_at-same n (e ∷ p) p (comes.births n) (λ s. ap length (arrives-elsewhere cl e p m legal comes (record { node = n; serial = s }) (elsewhere m.to n s apart)))
 
@@ -92,22 +92,24 @@ ready-arrived cl e p m old new idle legal comes told change has =
 
 -- ---- a send within one node
 
+-- its message is admitted at once
+pub local-arrival : (cl : Cluster) (f t : Actor) (refs : List Actor) (p : List Event) → f.node ≡ t.node → IsLegal cl (Send f t refs ∷ p) → IsArrival (Send f t refs) p (record { from = f; to = t; refs = refs })
+local-arrival cl f t refs p local legal = record {
+  one = (cond-true (f.node == t.node) (record { from = f; to = t; refs = refs } ∷ []) [] (eq-eqb f.node t.node local), λ a. refl);
+  up = λ k. refl;
+  busy = λ a. refl;
+  births = λ k. refl;
+  born = (legal-kept cl (Send f t refs) p legal).1.0;
+  node_up = subst (λ k. is_up k p ≡ true) local (legal-send cl f t refs p legal).up;
+}
+
 pub delivers : (cl : Cluster) (f t : Actor) (refs : List Actor) (p : List Event) (old new : TrafficState) (idle : Bool) → f.node ≡ t.node → Delivers old new t refs idle → idle ≡ not (is_busy t p) → Keeps cl (Send f t refs) p old new
 delivers cl f t refs p old new idle local change told legal stands =
     let e : Event = Send f t refs in
     let h : List Event = e ∷ p in
     let m : Message = record { from = f; to = t; refs = refs } in
     let n = t.node in
-    let kept = legal-kept cl e p legal in
-    let rules = legal-send cl f t refs p legal in
-    let comes : IsArrival e p m = record {
-      one = (cond-true (f.node == n) (m ∷ []) [] (eq-eqb f.node n local), λ a. refl);
-      up = λ k. refl;
-      busy = λ a. refl;
-      births = λ k. refl;
-      born = kept.1.0;
-      node_up = subst (λ k. is_up k p ≡ true) local rules.up;
-    } in
+    let comes = local-arrival cl f t refs p local legal in
     let no_link = λ (x y : ℕ) (apart : x ≢ y). not-both f.node n x y (λ both. apart (both.0 ∙ local ∙ sym both.1)) in
     let coming = λ (k : ℕ). coming-same cl k e p (λ s apart. no_link s k apart) in
     let live = live-changed cl n h p 1 0 comes.node_up comes.node_up (omega (arith, waits-more cl e p m legal.1 comes, coming n)) in
@@ -127,12 +129,12 @@ delivers cl f t refs p old new idle local change told legal stands =
 -- ---- an admission
 
 -- what the number brings: nothing where it was admitted, else the message
-abbrev Brings : Bool → List Message → ℕ → Type 0
+abbrev pub Brings : Bool → List Message → ℕ → Type 0
 Brings v ms k =
     ((cond v None (option_map envelope_of (slice_get ms k)) ≡ None) × (cond v [] (option_to_list (slice_get ms k)) ≡ []))
     ⊎ ((m : Message) × (cond v None (option_map envelope_of (slice_get ms k)) ≡ Some (envelope_of m)) × (cond v [] (option_to_list (slice_get ms k)) ≡ m ∷ []))
 
-brings : (v : Bool) (ms : List Message) (k : ℕ) → k < length ms → Brings v ms k
+pub brings : (v : Bool) (ms : List Message) (k : ℕ) → k < length ms → Brings v ms k
 brings true ms k below = inl (refl, refl)
 brings false ms k below = (let found = place-has ms k below in inr (found.0, there (slice_get ms k) found.0 found.1, found.1))
   where
@@ -156,12 +158,12 @@ weight-none : (pile : Option Pile) → message_in pile ≡ None → weight pile 
 weight-none pile e = ap weight_of e
 
 -- what the rules of an admission say of the number
-record IsAdmission (cl : Cluster) (s d k : ℕ) (p : List Event) : Type 0 where
-  link : IsLinkLegal cl s d p
-  some : 0 < copies s d k p
-  below : k < length (sent s d p)
+pub record IsAdmission (cl : Cluster) (s d k : ℕ) (p : List Event) : Type 0 where
+  pub link : IsLinkLegal cl s d p
+  pub some : 0 < copies s d k p
+  pub below : k < length (sent s d p)
 
-admission : (cl : Cluster) (s d k : ℕ) (p : List Event) → IsLegal cl (Admit s d k ∷ p) → IsAdmission cl s d k p
+pub admission : (cl : Cluster) (s d k : ℕ) (p : List Event) → IsLegal cl (Admit s d k ∷ p) → IsAdmission cl s d k p
 admission cl s d k p legal =
     let kept = legal-kept cl (Admit s d k) p legal in
     let some = ltb-true 0 (copies s d k p) kept.1.1.1.1.1.0 in
@@ -220,6 +222,23 @@ discards cl s d k p old new is steps loads mail ready bare none legal stands =
       ready = λ a. ready a ∙ stands.ready a ∙ sym (ready-same a h p refl refl (waiting-left cl e p legal.1 quiet a));
     }
 
+-- the message that the number brings is one to the node
+first-to : (s d k : ℕ) (p : List Event) (m : Message) → message_at s d k p ≡ m ∷ [] → m.to.node ≡ d
+first-to s d k p m number = (sent-among s d p m (message_at-among s d k p m (subst (IsAmong m) (sym number) (inl refl)))).2
+
+-- it is admitted
+pub first-arrival : (cl : Cluster) (s d k : ℕ) (p : List Event) (m : Message) → is_up d p ≡ true → IsLegal cl (Admit s d k ∷ p) → message_at s d k p ≡ m ∷ [] → admitted_by (Admit s d k) p ≡ m ∷ [] → IsArrival (Admit s d k) p m
+first-arrival cl s d k p m up legal number one =
+    let was_sent = sent-among s d p m (message_at-among s d k p m (subst (IsAmong m) (sym number) (inl refl))) in
+    record {
+      one = (one, λ a. refl);
+      up = λ n. refl;
+      busy = λ a. refl;
+      births = λ n. refl;
+      born = (sent-born cl p legal.1 m was_sent.0).1;
+      node_up = subst (λ n. is_up n p ≡ true) (sym was_sent.2) up;
+    }
+
 -- a message that is admitted waits for its recipient
 admits-first : (cl : Cluster) (s d k : ℕ) (p : List Event) (old new : TrafficState) (m : Message) (idle : Bool) → IsAdmission cl s d k p → AdmissionSteps cl s d k p old new → new.loads ≡ old.loads
     → ChangesMail old.boxes new.boxes m.to (mail_of old.boxes m.to ++ m.refs ∷ []) → IsReadyIf idle old.ready new.ready m.to → message_on old s d k ≡ Some (envelope_of m) → message_at s d k p ≡ m ∷ [] → admitted_by (Admit s d k) p ≡ m ∷ []
@@ -227,16 +246,8 @@ admits-first : (cl : Cluster) (s d k : ℕ) (p : List Event) (old new : TrafficS
 admits-first cl s d k p old new m idle is steps loads mail ready message number one told legal stands =
     let e : Event = Admit s d k in
     let h : List Event = e ∷ p in
-    let was_sent = sent-among s d p m (message_at-among s d k p m (subst (IsAmong m) (sym number) (inl refl))) in
-    let on : m.to.node ≡ d = was_sent.2 in
-    let comes : IsArrival e p m = record {
-      one = (one, λ a. refl);
-      up = λ n. refl;
-      busy = λ a. refl;
-      births = λ n. refl;
-      born = (sent-born cl p legal.1 m was_sent.0).1;
-      node_up = subst (λ n. is_up n p ≡ true) (sym on) is.link.up;
-    } in
+    let comes = first-arrival cl s d k p m is.link.up legal number one in
+    let on = first-to s d k p m number in
     let weighs = weight-there (pile_at (link_of old s d).piles k) (envelope_of m) message in
     let here = steps.here in
     let waits = subst (λ n. waiting_at n h ≡ waiting_at n p + 1) on (waits-more cl e p m legal.1 comes) in
@@ -252,6 +263,11 @@ admits-first cl s d k p old new m idle is steps loads mail ready message number 
       mail = mail-admitted cl e p m old.boxes new.boxes legal one comes.one.1 mail stands.mail;
       ready = ready-arrived cl e p m old.ready new.ready idle legal.1 comes told ready stands.ready;
     }
+
+-- what is brought is the message of the number
+pub at-first : (v : Bool) (m : Message) (ms : List Message) → cond v [] ms ≡ m ∷ [] → ms ≡ m ∷ []
+at-first true m ms e = absurd (cc)
+at-first false m ms e = e
 
 pub copy-admitted : (cl : Cluster) (s d k : ℕ) (p : List Event) (old new : TrafficState) (idle : Bool) → AdmitsCopy old new s d k idle → TellsIdle idle (recipient_on old s d k) p → Keeps cl (Admit s d k) p old new
 copy-admitted cl s d k p old new idle change told legal stands =
@@ -273,7 +289,3 @@ copy-admitted cl s d k p old new idle change told legal stands =
           admits-first cl s d k p old new m idle is steps change.nodes.1 arrives.0 arrives.1 message (at-first (was_admitted s d k p) m (message_at s d k p) some.2) some.2 tells legal stands
           )
     ]
-  where
-    at-first : (v : Bool) (m : Message) (ms : List Message) → cond v [] ms ≡ m ∷ [] → ms ≡ m ∷ []
-    at-first true m ms e = absurd (cc)
-    at-first false m ms e = e

@@ -1,4 +1,5 @@
 pub mod Changes
+pub mod Fitting
 pub mod Loads
 pub mod Readings
 pub mod Standing

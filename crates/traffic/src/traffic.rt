@@ -1,5 +1,5 @@
 //! The traffic between the actors of a cluster.
-ghost use Rattle.std.specs.Prelude.{◌≡◌, ◌≢◌, ◌+◌, ◌<◌, ◌≤◌, ◌^◌, ◌&&◌, not, ℕ, [], Bool, IfNone, IfOk, IfSome, List, None, OnErr, OnOk, OnSome, Some, length, slice_get, sum_by, true};
+ghost use Rattle.std.specs.Prelude.{◌≡◌, ◌≢◌, ◌+◌, ◌<◌, ◌≤◌, ◌^◌, ◌&&◌, not, ℕ, [], Bool, IfNone, IfOk, IfSome, List, None, OnErr, OnOk, OnSome, Some, length, slice_get, sum_by, true, false};
 ghost use Rattle.std.specs.Option.{option_map};
 ghost use Rattle.crgc_ids.specs.Nodes.{nodes_below};
 ghost use Rattle.history_model.specs.declared.events.Event.{Event};
@@ -20,7 +20,7 @@ ghost use Rattle.mailboxes.specs.Mail.{mail_of};
 ghost use Rattle.ready_actors.specs.Ready.{IsAbove, IsLowestOf, IsOfNone, has_actor};
 ghost use Rattle.traffic.specs.Changes.{AdmitsCopy, ClosesLink, CutsWindow, Delivers, HasRoomFor, IsAsBefore, IsNewTraffic, LosesCopy, NodeGoesDown, RepeatsCopy, Rests, SendsMessage, SendsOnLink, TakesMessage, Wakes};
 ghost use Rattle.traffic.specs.Loads.{live_in, up_in};
-ghost use Rattle.traffic.specs.Readings.{IsHead, IsNextReady};
+ghost use Rattle.traffic.specs.Readings.{IsHead, IsLowestNode, IsNextReady, IsNextRemoval, IsNextWindow, IsOpenLink, MayCut, MayRemove};
 ghost use Rattle.traffic.specs.Standing.{AlwaysKeeps, IsTrafficOf, KeepsIfTold};
 ghost use Rattle.traffic.specs.TrafficState.{link_of, message_on, pile_on, recipient_on};
 
@@ -228,7 +228,7 @@ impl Traffic {
         ensures change { Wakes self.old self.new actor }
         ensures kept { AlwaysKeeps (Wake actor) self.old self.new }
     {
-        self.ready.take_out(actor);
+        self.ready.take_out(actor)
     }
 
     /// The actor rests: it may take a message again, if one waits. After `NoMemory` all is as before. Logarithmic time in the
@@ -355,6 +355,70 @@ impl Traffic {
         self.ready.next(after)
     }
 
+    /// The lowest node from which `at` may cut a window: something was admitted on the open link since the last one. None
+    /// exactly where there is none. Constant time.
+    pub fn next_window(&self, at: NodeId) -> Option<NodeId>
+        ensures lowest { IsLowestNode (MayCut self.now at) result }
+        ensures stands { (cl : Cluster) (h : List Event) → IsTrafficOf cl h self.now → IsNextWindow cl at h result }
+    {
+        let _nodes = self.nodes;
+        for number in 0u8..16 {
+            let from = node(number);
+            if self.may_cut(from, at) {
+                return Some(from);
+            }
+        }
+        None
+    }
+
+    /// The lowest crashed node that `at` has not removed. None exactly where there is none. Constant time.
+    pub fn next_removal(&self, at: NodeId) -> Option<NodeId>
+        ensures lowest { IsLowestNode (MayRemove self.now at) result }
+        ensures stands { (cl : Cluster) (h : List Event) → IsTrafficOf cl h self.now → IsNextRemoval cl at h result }
+    {
+        let _nodes = self.nodes;
+        for number in 0u8..16 {
+            let gone = node(number);
+            if self.may_remove(gone, at) {
+                return Some(gone);
+            }
+        }
+        None
+    }
+
+    /// Whether `at` may cut a window of the link.
+    fn may_cut(&self, from: NodeId, at: NodeId) -> bool
+        ensures yes { result ≡ true → MayCut self.now at from }
+        ensures no_ { result ≡ false → MayCut self.now at from → ⊥ }
+    {
+        if !self.is_open_link(from, at) {
+            return false;
+        }
+        0 < self.links.link(from, at).named()
+    }
+
+    /// Whether `at` may remove the node.
+    fn may_remove(&self, gone: NodeId, at: NodeId) -> bool
+        ensures yes { result ≡ true → MayRemove self.now at gone }
+        ensures no_ { result ≡ false → MayRemove self.now at gone → ⊥ }
+    {
+        if !self.is_open_link(gone, at) {
+            return false;
+        }
+        !self.loads.is_up(gone)
+    }
+
+    /// Whether the two are different nodes of the cluster, and the link is open.
+    fn is_open_link(&self, from: NodeId, at: NodeId) -> bool
+        ensures yes { result ≡ true → IsOpenLink self.now at from }
+        ensures no_ { result ≡ false → IsOpenLink self.now at from → ⊥ }
+    {
+        if from == at || self.nodes <= from.get() || self.nodes <= at.get() {
+            return false;
+        }
+        self.links.link(from, at).is_open()
+    }
+
     /// How many messages are live. Constant time.
     pub fn live_count(&self) -> u64
         ensures loads { result ≡ sum_by (λ n. live_in self.now.loads n) (nodes_below self.now.nodes) }
@@ -407,4 +471,12 @@ impl Traffic {
         }
         Ok(added)
     }
+}
+
+/// The node with this number.
+fn node(number: u8) -> NodeId
+    requires { number < 16 }
+    ensures { result ≡ number }
+{
+    NodeId::new(number).unwrap()
 }
