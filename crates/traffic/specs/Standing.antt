@@ -42,6 +42,10 @@ TellsIdle idle (Some a) h = idle ≡ not (is_busy a h)
 abbrev pub KeepsIfTold : Bool → Option Actor → Event → TrafficState → TrafficState → Type 0
 KeepsIfTold idle to e old new = (cl : Cluster) (p : List Event) → TellsIdle idle to p → Keeps cl e p old new
 
+-- what is true of each history for which the traffic stands
+abbrev pub InHistoriesOf : TrafficState → (List Event → Type 0) → Type 0
+InHistoriesOf t P = (cl : Cluster) (h : List Event) → IsTrafficOf cl h t → P h
+
 -- the event touches nothing of the traffic
 abbrev pub is_beside : Event → Bool
 is_beside (Seed n) = true

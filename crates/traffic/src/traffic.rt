@@ -21,7 +21,7 @@ ghost use Rattle.ready_actors.specs.Ready.{IsAbove, IsLowestOf, IsOfNone, has_ac
 ghost use Rattle.traffic.specs.Changes.{AdmitsCopy, ClosesLink, CutsWindow, Delivers, HasRoomFor, IsAsBefore, IsNewTraffic, LosesCopy, NodeGoesDown, RepeatsCopy, Rests, SendsMessage, SendsOnLink, TakesMessage, Wakes};
 ghost use Rattle.traffic.specs.Loads.{live_in, up_in};
 ghost use Rattle.traffic.specs.Readings.{IsHead, IsLowestNode, IsNextReady, IsNextRemoval, IsNextWindow, IsOpenLink, MayCut, MayRemove};
-ghost use Rattle.traffic.specs.Standing.{AlwaysKeeps, IsTrafficOf, KeepsIfTold};
+ghost use Rattle.traffic.specs.Standing.{AlwaysKeeps, InHistoriesOf, IsTrafficOf, KeepsIfTold};
 ghost use Rattle.traffic.specs.TrafficState.{link_of, message_on, pile_on, recipient_on};
 
 use crate::loads::NodeLoads;
@@ -88,7 +88,8 @@ impl Traffic {
     ) -> Result<Option<u32>, NoMemory>
         requires sent { (link_of self.old from.node to.node).sent + 1 < 2 ^ 32 }
         requires live { live_in self.old.loads to.node + 1 < 2 ^ 32 }
-        ensures number { IfOk result (λ number. (from.node ≡ to.node → number ≡ None) × ((from.node ≡ to.node → ⊥) → number ≡ Some (link_of self.old from.node to.node).sent)) }
+        ensures local { from.node ≡ to.node → IfOk result (λ number. number ≡ None) }
+        ensures number { (from.node ≡ to.node → ⊥) → IfOk result (λ number. number ≡ Some (link_of self.old from.node to.node).sent) }
         ensures ok { OnOk result (SendsMessage self.old self.new from to refs idle) }
         ensures kept { OnOk result (KeepsIfTold idle (Some to) (Send from to refs) self.old self.new) }
         ensures err { OnErr result (IsAsBefore self.old self.new) }
@@ -213,7 +214,7 @@ impl Traffic {
     pub fn take(&mut self, actor: ActorId) -> RefList
         requires { 0 < length (mail_of self.old.boxes actor) }
         ensures first { slice_get (mail_of self.old.boxes actor) 0 ≡ Some result }
-        ensures taken { (cl : Cluster) (h : List Event) → IsTrafficOf cl h self.old → option_map (λ (m : Message). m.refs) (slice_get (waiting actor h) 0) ≡ Some result }
+        ensures taken { InHistoriesOf self.old (λ h. option_map (λ (m : Message). m.refs) (slice_get (waiting actor h) 0) ≡ Some result) }
         ensures change { TakesMessage self.old self.new actor }
         ensures kept { AlwaysKeeps (Take actor) self.old self.new }
     {
@@ -263,7 +264,7 @@ impl Traffic {
         requires apart { from ≢ at }
         requires open { (link_of self.old from at).is_open ≡ true }
         ensures some { IfSome result (IsWindowOf (link_of self.old from at).gate) }
-        ensures counts { IfSome result (λ w. (cl : Cluster) (h : List Event) → IsTrafficOf cl h self.old → CountsSince from at h w) }
+        ensures counts { IfSome result (λ w. InHistoriesOf self.old (λ h. CountsSince from at h w)) }
         ensures change { OnSome result (CutsWindow self.old self.new from at) }
         ensures kept { OnSome result (AlwaysKeeps (WindowEvent at from) self.old self.new) }
         ensures admitted { OnSome result (0 < length (link_of self.old from at).gate.messages) }
@@ -280,7 +281,7 @@ impl Traffic {
         requires apart { gone ≢ at }
         requires open { (link_of self.old gone at).is_open ≡ true }
         ensures window { IsWindowOf (link_of self.old gone at).gate result }
-        ensures counts { (cl : Cluster) (h : List Event) → IsTrafficOf cl h self.old → CountsSince gone at h result }
+        ensures counts { InHistoriesOf self.old (λ h. CountsSince gone at h result) }
         ensures change { ClosesLink self.old self.new gone at }
         ensures kept { AlwaysKeeps (Remove at gone) self.old self.new }
     {
@@ -292,7 +293,7 @@ impl Traffic {
     /// How many messages wait for the actor. Logarithmic time in the number of actors.
     pub fn mail(&self, actor: ActorId) -> usize
         ensures mail { result ≡ length (mail_of self.now.boxes actor) }
-        ensures stands { (cl : Cluster) (h : List Event) → IsTrafficOf cl h self.now → result ≡ length (waiting actor h) }
+        ensures stands { InHistoriesOf self.now (λ h. result ≡ length (waiting actor h)) }
     {
         self.boxes.waiting(actor)
     }
@@ -302,7 +303,7 @@ impl Traffic {
     pub fn copies(&self, from: NodeId, at: NodeId, number: u32) -> u32
         requires { from ≢ at }
         ensures pile { result ≡ copies_in (pile_on self.now from at number) }
-        ensures stands { (cl : Cluster) (h : List Event) → IsTrafficOf cl h self.now → is_link_open from at h ≡ true → result ≡ copies from at number h }
+        ensures stands { InHistoriesOf self.now (λ h. is_link_open from at h ≡ true → result ≡ copies from at number h) }
     {
         self.links.link(from, at).copies(number)
     }
@@ -311,7 +312,7 @@ impl Traffic {
     pub fn is_open(&self, from: NodeId, at: NodeId) -> bool
         requires { from ≢ at }
         ensures link { result ≡ (link_of self.now from at).is_open }
-        ensures stands { (cl : Cluster) (h : List Event) → IsTrafficOf cl h self.now → result ≡ is_link_open from at h }
+        ensures stands { InHistoriesOf self.now (λ h. result ≡ is_link_open from at h) }
     {
         self.links.link(from, at).is_open()
     }
@@ -320,7 +321,7 @@ impl Traffic {
     pub fn sent(&self, from: NodeId, at: NodeId) -> u32
         requires { from ≢ at }
         ensures link { result ≡ (link_of self.now from at).sent }
-        ensures stands { (cl : Cluster) (h : List Event) → IsTrafficOf cl h self.now → result ≡ length (sent from at h) }
+        ensures stands { InHistoriesOf self.now (λ h. result ≡ length (sent from at h)) }
     {
         self.links.link(from, at).sent()
     }
@@ -331,7 +332,7 @@ impl Traffic {
         requires { from ≢ at }
         ensures some { IfSome result (IsLowest (link_of self.now from at).piles) }
         ensures none { IfNone result ((k : ℕ) → pile_on self.now from at k ≡ None) }
-        ensures stands { (cl : Cluster) (h : List Event) → IsTrafficOf cl h self.now → IsHead from at h result }
+        ensures stands { InHistoriesOf self.now (λ h. IsHead from at h result) }
     {
         self.links.link(from, at).head()
     }
@@ -340,7 +341,7 @@ impl Traffic {
     pub fn named(&self, from: NodeId, at: NodeId) -> usize
         requires { from ≢ at }
         ensures link { result ≡ named_count (link_of self.now from at).gate.messages (link_of self.now from at).gate.carried }
-        ensures stands { (cl : Cluster) (h : List Event) → IsTrafficOf cl h self.now → result ≡ length (rising_actors (fact_names (window from at h))) }
+        ensures stands { InHistoriesOf self.now (λ h. result ≡ length (rising_actors (fact_names (window from at h)))) }
     {
         self.links.link(from, at).named()
     }
@@ -350,7 +351,7 @@ impl Traffic {
     pub fn next_ready(&self, after: Option<ActorId>) -> Option<ActorId>
         ensures some { IfSome result (IsLowestOf self.now.ready (IsAbove after)) }
         ensures none { IfNone result (IsOfNone self.now.ready (IsAbove after)) }
-        ensures stands { (cl : Cluster) (h : List Event) → IsTrafficOf cl h self.now → IsNextReady h after result }
+        ensures stands { InHistoriesOf self.now (λ h. IsNextReady h after result) }
     {
         self.ready.next(after)
     }
@@ -430,7 +431,7 @@ impl Traffic {
     /// Whether the node is up.
     pub fn is_up(&self, node: NodeId) -> bool
         ensures loads { result ≡ up_in self.now.loads node }
-        ensures stands { (cl : Cluster) (h : List Event) → IsTrafficOf cl h self.now → result ≡ is_up node h }
+        ensures stands { InHistoriesOf self.now (λ h. result ≡ is_up node h) }
     {
         self.loads.is_up(node)
     }

@@ -6,16 +6,16 @@ use Rattle.traffic.specs.TrafficState.{link_of}
 use Rattle.traffic.proofs.laws.small_histories_fit.Goals as goal
 
 pub returns-clause-sent : goal.returns-clause-sent
-returns-clause-sent c = λ cl h t s d small stands link.
+returns-clause-sent c = λ cl h t small stands s d link.
     (let stamped = (stands.links s d link).stamped in let short = sent-short s d h in let few = small.0 in omega arith)
 
 pub returns-clause-live : goal.returns-clause-live
-returns-clause-live c = λ cl h t n small legal stands.
+returns-clause-live c = λ cl h t small legal stands n.
     (let live = stands.live n in let most = live-bound cl h legal n in let few = small.0 in omega arith)
 
 pub returns-clause-copies : goal.returns-clause-copies
-returns-clause-copies c = λ cl h t s d k small stands link.
+returns-clause-copies c = λ cl h t small stands s d k link.
     (let piled = ap copies_in ((stands.links s d link).piled k) in let here = pile-few s d k h in let most = copies-few s d k h in let few = small.0 in omega arith)
 
-pub returns-clause-gate : goal.returns-clause-gate
-returns-clause-gate c = λ cl h t s d k small stands link. gate-fits s d k h (link_of t s d) small (stands.links s d link)
+pub returns-clause-gates : goal.returns-clause-gates
+returns-clause-gates c = λ cl h t small stands s d k link. gate-fits s d k h (link_of t s d) small (stands.links s d link)
