@@ -48,7 +48,8 @@ impl LinkTable {
     /// The link from one node to another.
     pub fn link(&self, from: NodeId, at: NodeId) -> &Link
         requires { from ≢ at }
-        ensures { result.now ≡ link_at self.now from at }
+        ensures link { result.now ≡ link_at self.now from at }
+        ensures ends { IsLink from at }
     {
         &self.links[place(from, at)]
     }

@@ -10,8 +10,8 @@ use Rattle.history_model.specs.Legal.{IsLegal}
 use Rattle.history_model.specs.Messages.{Message, admitted_by, is_take_by, is_to, mail, takes, waiting}
 use Rattle.history_model.proofs.AccountsTaken.{takes-mail}
 use Rattle.history_model.proofs.Basics.{same_actor-equal}
-use Rattle.mailboxes.specs.Mail.{IsMailboxChange, Mailbox, mail_of}
-use Rattle.mail_laws.specs.Standing.{StandsForMail}
+use Rattle.mailboxes.specs.Mail.{Mailbox, mail_of}
+use Rattle.mail_laws.specs.Standing.{ChangesMail, StandsForMail}
 
 -- the references of messages
 abbrev pub all_refs : List Message → List (List Actor)
@@ -65,22 +65,22 @@ at-actor P b a here there =
     both : same_actor b a ≡ false → a ≡ b → ⊥
     both other e = (let same : same_actor b a ≡ true = (same_actor-decides b a).1 (sym e) in absurd (cc))
 
-pub mail-admitted : (cl : Cluster) (e : Event) (p : List Event) (m : Message) (old new : List (Actor × Mailbox)) (room : ℕ) → IsLegal cl (e ∷ p) → admitted_by e p ≡ m ∷ [] → ((a : Actor) → is_take_by a e ≡ false)
-    → IsMailboxChange old new m.to (mail_of old m.to ++ m.refs ∷ []) room → StandsForMail p old → StandsForMail (e ∷ p) new
-mail-admitted cl e p m old new room legal one idle change stands a =
+pub mail-admitted : (cl : Cluster) (e : Event) (p : List Event) (m : Message) (old new : List (Actor × Mailbox)) → IsLegal cl (e ∷ p) → admitted_by e p ≡ m ∷ [] → ((a : Actor) → is_take_by a e ≡ false)
+    → ChangesMail old new m.to (mail_of old m.to ++ m.refs ∷ []) → StandsForMail p old → StandsForMail (e ∷ p) new
+mail-admitted cl e p m old new legal one idle change stands a =
     let Stands : Actor → Type 0 = λ x. mail_of new x ≡ all_refs (waiting x p ++ filter (is_to x) (m ∷ [])) in
     let itself : is_to m.to m ≡ true = (same_actor-decides m.to m.to).1 refl in
     let here : Stands m.to = change.mail ∙ ap (λ rs. rs ++ m.refs ∷ []) (stands m.to) ∙ sym (map-append (λ (x : Message). x.refs) (waiting m.to p) (m ∷ []))
     ∙ sym (ap (λ v. all_refs (waiting m.to p ++ cond v (m ∷ []) [])) itself) in
     let there = λ (apart : a ≢ m.to). (
     let not_to : is_to a m ≡ false = elim (is_to a m) as (λ v. is_to a m ≡ v → v ≡ false) [ true ↦ λ same. absurd (apart (sym (same_actor-equal m.to a same))) | false ↦ λ _. refl ] refl in
-    (change.others a apart).0 ∙ stands a ∙ sym (ap all_refs (ap (λ v. waiting a p ++ cond v (m ∷ []) []) not_to ∙ append-nil (waiting a p)))) in
+    change.others a apart ∙ stands a ∙ sym (ap all_refs (ap (λ v. waiting a p ++ cond v (m ∷ []) []) not_to ∙ append-nil (waiting a p)))) in
     at-actor Stands m.to a here there ∙ sym (ap all_refs (waiting-admitted cl e p legal.1 a (idle a) ∙ ap (λ ms. waiting a p ++ filter (is_to a) ms) one))
 
-pub mail-taken : (p : List Event) (b : Actor) (old new : List (Actor × Mailbox)) (room : ℕ) → IsMailboxChange old new b (drop 1 (mail_of old b)) room → StandsForMail p old → StandsForMail (Take b ∷ p) new
-mail-taken p b old new room change stands a =
+pub mail-taken : (p : List Event) (b : Actor) (old new : List (Actor × Mailbox)) → ChangesMail old new b (drop 1 (mail_of old b)) → StandsForMail p old → StandsForMail (Take b ∷ p) new
+mail-taken p b old new change stands a =
     at-actor (λ x. mail_of new x ≡ all_refs (waiting x (Take b ∷ p))) b a
     (change.mail ∙ ap (drop 1) (stands b) ∙ sym (drop-refs (waiting b p)) ∙ sym (ap all_refs (waiting-taken b p)))
     (λ apart.
     let other : same_actor b a ≡ false = elim (same_actor b a) as (λ v. same_actor b a ≡ v → v ≡ false) [ true ↦ λ same. absurd (apart (sym (same_actor-equal b a same))) | false ↦ λ _. refl ] refl in
-    (change.others a apart).0 ∙ stands a ∙ sym (ap all_refs (waiting-other a b p other)))
+    change.others a apart ∙ stands a ∙ sym (ap all_refs (waiting-other a b p other)))

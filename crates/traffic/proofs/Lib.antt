@@ -1,0 +1,14 @@
+pub mod AdmissionLemmas
+pub mod Beginning
+pub mod FittingCounts
+pub mod FittingWaits
+pub mod KeepingActors
+pub mod KeepingLinks
+pub mod KeepingMessages
+pub mod LiveSums
+pub mod Outcomes
+pub mod ReadingLemmas
+pub mod ReadySteps
+pub mod SearchLemmas
+pub mod SumLemmas
+pub mod TableSteps
