@@ -1,5 +1,5 @@
 -- Worked texts, computed: a script that one stands for, and the first faults of broken ones.
-use Rattle.std.proofs.Common.{◌≡◌, ℕ, true, List, [], ◌∷◌, ◌++◌, map, Option, Some, None, option_map, Result, Ok, Err, codes, refl, sym, ◌∙◌, ap}
+use Rattle.std.proofs.Common.{◌≡◌, ℕ, true, List, [], ◌∷◌, ◌++◌, map, Option, Some, None, option_map, Result, Ok, Err, codes, refl, sym, ◌∙◌}
 use Rattle.std.specs.Float.Numeral.{scan_numeral}
 use Rattle.json.specs.Json.{items, members, value}
 use Rattle.json.specs.Lex.{lex, punctuate}
@@ -8,8 +8,6 @@ use Rattle.json.specs.Word.{after_number, word}
 use Rattle.json.proofs.Printed.Utf8.{IsUtf8-are_ascii, are_ascii}
 use Rattle.serde_json.specs.Data.{Data}
 use Rattle.serde_json.specs.Read.{number_of, read}
-use Rattle.behaviour_lang.specs.declared.instr.Instr.TheVariants as instrs
-use Rattle.behaviour_lang.specs.declared.instr.Name.TheVariants.{Own, Message, Local}
 use Rattle.behaviour_lang.specs.Names.{is_behaviour_name, is_local_name, message_number}
 use Rattle.fault_plan.specs.Rows.{link_row}
 use Rattle.script_reader.specs.declared.fault.Flaw.{Flaw}
