@@ -86,7 +86,7 @@ impl Traffic {
         refs: RefList,
         idle: bool,
     ) -> Result<Option<u32>, NoMemory>
-        requires sent { (link_of self.old from.node to.node).sent + 1 < 2 ^ 32 }
+        requires sent { (from.node ≡ to.node → ⊥) → (link_of self.old from.node to.node).sent + 1 < 2 ^ 32 }
         requires live { live_in self.old.loads to.node + 1 < 2 ^ 32 }
         ensures local { from.node ≡ to.node → IfOk result (λ number. number ≡ None) }
         ensures number { (from.node ≡ to.node → ⊥) → IfOk result (λ number. number ≡ Some (link_of self.old from.node to.node).sent) }
