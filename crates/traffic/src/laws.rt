@@ -19,8 +19,8 @@ pub fn what_is_as_before_stands_as_before()
     ensures { (cl : Cluster) (h : List Event) (old new : TrafficState) → IsAsBefore old new → IsTrafficOf cl h old → IsTrafficOf cl h new }
 {}
 
-/// Where a history has at most 1,000,000 events and each of its messages carries at most 16 references, the conditions of the
-/// calls on numbers hold: those of a send, of a repeat and of an admission.
+/// Where a legal history has at most 1,000,000 events and each of its messages carries at most 16 references, the conditions
+/// of the calls on numbers hold: those of a send, of a repeat and of an admission.
 pub fn small_histories_fit()
     ensures sent { (cl : Cluster) (h : List Event) (t : TrafficState) → IsSmall h → IsTrafficOf cl h t → SentFits t }
     ensures live { (cl : Cluster) (h : List Event) (t : TrafficState) → IsSmall h → IsLegal cl h → IsTrafficOf cl h t → LiveFits t }

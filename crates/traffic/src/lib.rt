@@ -7,3 +7,6 @@ mod ready_changes;
 mod traffic;
 
 pub use traffic::Traffic;
+
+#[cfg(test)]
+mod tests;

@@ -86,7 +86,7 @@ impl Traffic {
         refs: RefList,
         idle: bool,
     ) -> Result<Option<u32>, NoMemory>
-        requires sent { (link_of self.old from.node to.node).sent + 1 < 2 ^ 32 }
+        requires sent { (from.node ≡ to.node → ⊥) → (link_of self.old from.node to.node).sent + 1 < 2 ^ 32 }
         requires live { live_in self.old.loads to.node + 1 < 2 ^ 32 }
         ensures local { from.node ≡ to.node → IfOk result (λ number. number ≡ None) }
         ensures number { (from.node ≡ to.node → ⊥) → IfOk result (λ number. number ≡ Some (link_of self.old from.node to.node).sent) }
@@ -389,8 +389,8 @@ impl Traffic {
 
     /// Whether `at` may cut a window of the link.
     fn may_cut(&self, from: NodeId, at: NodeId) -> bool
-        ensures yes { result ≡ true → MayCut self.now at from }
-        ensures no_ { result ≡ false → MayCut self.now at from → ⊥ }
+        ensures may { result ≡ true → MayCut self.now at from }
+        ensures may_not { result ≡ false → MayCut self.now at from → ⊥ }
     {
         if !self.is_open_link(from, at) {
             return false;
@@ -400,8 +400,8 @@ impl Traffic {
 
     /// Whether `at` may remove the node.
     fn may_remove(&self, gone: NodeId, at: NodeId) -> bool
-        ensures yes { result ≡ true → MayRemove self.now at gone }
-        ensures no_ { result ≡ false → MayRemove self.now at gone → ⊥ }
+        ensures may { result ≡ true → MayRemove self.now at gone }
+        ensures may_not { result ≡ false → MayRemove self.now at gone → ⊥ }
     {
         if !self.is_open_link(gone, at) {
             return false;
@@ -411,8 +411,8 @@ impl Traffic {
 
     /// Whether the two are different nodes of the cluster, and the link is open.
     fn is_open_link(&self, from: NodeId, at: NodeId) -> bool
-        ensures yes { result ≡ true → IsOpenLink self.now at from }
-        ensures no_ { result ≡ false → IsOpenLink self.now at from → ⊥ }
+        ensures may { result ≡ true → IsOpenLink self.now at from }
+        ensures may_not { result ≡ false → IsOpenLink self.now at from → ⊥ }
     {
         if from == at || self.nodes <= from.get() || self.nodes <= at.get() {
             return false;
