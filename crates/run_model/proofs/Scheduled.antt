@@ -34,7 +34,7 @@ use Rattle.run_model.proofs.TurnsDone.{IsBusyIn, acts-done}
 -- ---- it gives one history at most
 
 -- once nothing is possible the history stays
-done-stays : (s : Scripted) (k m : ℕ) → k ≤ m → IsDone s k → schedule s m ≡ schedule s k
+pub done-stays : (s : Scripted) (k m : ℕ) → k ≤ m → IsDone s k → schedule s m ≡ schedule s k
 done-stays s k zero le done = (let same : zero ≡ k = omega (arith, le) in ap (schedule s) same)
 done-stays s k (suc m) le done =
     elim (cases_lt m k) [
