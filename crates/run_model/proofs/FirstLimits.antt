@@ -13,9 +13,9 @@ use Rattle.history_model.specs.Rows.{onto}
 use Rattle.journal_model.specs.Limits.{limit_passed}
 use Rattle.script_reader.specs.Valid.{Scripted}
 use Rattle.run_model.specs.Doing.{cluster_of, doing}
-use Rattle.run_model.specs.Planned.{is_within_budget, wakes_left}
+use Rattle.run_model.specs.Planned.{is_within_budget, wakes_left, actors, is_possible}
 use Rattle.run_model.specs.Round.{round}
-use Rattle.run_model.specs.Schedule.{IsDone, IsFirstLimit, IsFixed, IsWithinLimits, Makes, actors, acts_of_turn, carries, crashed, is_possible, next_turn, one_more, rounded, schedule, stays, turn_done, whole_turn, woken_turn}
+use Rattle.run_model.specs.Schedule.{IsDone, IsFirstLimit, IsFixed, IsWithinLimits, Makes, acts_of_turn, carries, crashed, next_turn, one_more, rounded, schedule, stays, turn_done, whole_turn, woken_turn}
 use Rattle.run_model.specs.declared.run_laws.TheConstants.{TURNS_PER_ROUND}
 use Rattle.run_model.proofs.RoundQuiet.{round-more}
 use Rattle.run_model.proofs.Scheduled.{done-stays}

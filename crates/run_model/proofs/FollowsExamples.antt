@@ -5,9 +5,10 @@ use Rattle.history_model.specs.declared.events.Event.{Event}
 use Rattle.history_model.specs.declared.events.Event.TheVariants.{Seed, Wake, Take, Spawn, Send, Drop, Rest, Flush, Publish, Window, Admit, Lose, Repeat, Crash, Remove, Hand, Sweep}
 use Rattle.history_model.specs.Rows.{actor, onto}
 use Rattle.script_reader.specs.Valid.{Scripted}
+use Rattle.run_model.specs.Planned.{is_possible}
 use Rattle.run_model.specs.Doing.{beginning}
 use Rattle.run_model.specs.Follows.{Follows, added, are_allowed, is_allowed, is_over}
-use Rattle.run_model.specs.Schedule.{is_possible, schedule}
+use Rattle.run_model.specs.Schedule.{schedule}
 use Rattle.run_model.proofs.Scripts.{breeder, maker_friend_poke, pair}
 
 -- The fixed schedule of a script of less than 64 turns follows it.

@@ -19,10 +19,10 @@ use Rattle.history_model.proofs.Lists.{IsAmong-from_flat_map}
 use Rattle.fault_plan.specs.Rows.{Planned, crash_of}
 use Rattle.script_reader.specs.Valid.{Scripted}
 use Rattle.run_model.specs.Doing.{beginning, cluster_of, doing}
-use Rattle.run_model.specs.Planned.{carry, ended, ended_on, head, is_in, is_within_budget, next_on_link, node_if, wakes_left}
+use Rattle.run_model.specs.Planned.{carry, ended, ended_on, head, is_in, is_within_budget, next_on_link, node_if, wakes_left, actors, is_possible}
 use Rattle.run_model.specs.Follows.{Follows, IsClosing, IsUnfinished}
 use Rattle.run_model.specs.Round.{round}
-use Rattle.run_model.specs.Schedule.{IsDone, IsFixed, actors, acts_of_turn, carries, crashed, ended_turn, is_possible, next_turn, one_more, rounded, schedule, stays, whole_turn, woken_turn}
+use Rattle.run_model.specs.Schedule.{IsDone, IsFixed, acts_of_turn, carries, crashed, ended_turn, next_turn, one_more, rounded, schedule, stays, whole_turn, woken_turn}
 use Rattle.run_model.specs.declared.run_laws.TheConstants.{TURNS_PER_ROUND}
 use Rattle.run_model.proofs.ActsLegal.{busy-born, none-broken}
 use Rattle.run_model.proofs.Beginnings.{beginning-holds}

@@ -121,7 +121,10 @@ doing s a [] = as_seed s a
 doing s a (Wake b ∷ p) =
     elim (same_actor b a) as (λ _. Doing) [ true ↦ begins s lists.Wake [] (is_root a p) (doing s a p) | false ↦ doing s a p ]
 doing s a (Take b ∷ p) =
-    elim (same_actor b a) as (λ _. Doing) [ true ↦ begins s lists.Message (first_refs (waiting a p)) (is_root a p) (doing s a p) | false ↦ doing s a p ]
+    elim (same_actor b a) as (λ _. Doing) [
+      | true ↦ begins s lists.Message (first_refs (waiting a p)) (is_root a p) (doing s a p)
+      | false ↦ doing s a p
+    ]
 doing s a (Spawn b ∷ p) =
     elim (same_actor b a) as (λ _. Doing) [
       | true ↦ acts_on (Some (newborn b.node p)) (doing s a p)

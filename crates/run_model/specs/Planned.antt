@@ -1,18 +1,22 @@
--- What a script plans, and how much of it a history has used: turns, wakes, crashes, and copies lost and doubled.
-use Rattle.std.specs.Prelude.{ℕ, ◌-◌, ◌==◌, ◌&&◌, Bool, true, false, not, if◌then◌else◌, nat_lt, List, [], ◌∷◌, length, Option, Some, None}
+-- What a script plans, and how much of it a history has used: turns, wakes, crashes, and copies lost and doubled; and what is
+-- possible next.
+use Rattle.std.specs.Prelude.{ℕ, ◌-◌, ◌==◌, ◌&&◌, Bool, true, false, not, if◌then◌else◌, nat_lt, List, [], ◌∷◌, length, Option, Some, None, flat_map, is_none}
 use Rattle.std.specs.List.{find, list_any, range_with_len, sum_by}
 use Rattle.std.specs.Option.{option_map}
 use Rattle.crgc_ids.specs.Actor.{Actor, same_actor}
+use Rattle.crgc_ids.specs.Nodes.{nodes_below}
 use Rattle.history_model.specs.declared.events.Event.{Event}
 use Rattle.history_model.specs.declared.events.Event.TheVariants.{Wake, Take, Rest, Admit, Lose, Repeat}
 use Rattle.history_model.specs.Tally.{tally}
+use Rattle.history_model.specs.Legal.{refusal}
+use Rattle.history_model.specs.Live.{actors_of}
 use Rattle.history_model.specs.Messages.{sent, copies, is_lose, is_repeat}
 use Rattle.history_model.specs.State.{is_root, is_up}
 use Rattle.fault_plan.specs.Rows.{Planned, crash_of, link_row, same_row}
 use Rattle.fault_plan.specs.declared.links.LinkRow.{LinkRow}
 use Rattle.script_reader.specs.Valid.{Scripted}
 use Rattle.script_reader.specs.declared.script.Seed.{Seed as SeedRow}
-use Rattle.run_model.specs.Doing.{row_of, seed_actors}
+use Rattle.run_model.specs.Doing.{cluster_of, row_of, seed_actors}
 
 -- how many turns began, how many ended, and how many of these on node n
 abbrev pub is_begin : Event → Bool
@@ -88,3 +92,17 @@ carry s f d k h =
 -- what happens next on the link
 abbrev pub next_on_link : Scripted → ℕ → ℕ → List Event → Option Event
 next_on_link s f d h = option_map (λ k. carry s f d k h) (head f d h)
+
+-- What is possible next.
+
+-- no rule refuses the event
+abbrev pub is_possible : Scripted → Event → List Event → Bool
+is_possible s e h = is_none (refusal (cluster_of s) e h)
+
+-- all actors, rising
+abbrev pub actors : Scripted → List Event → List Actor
+actors s h = flat_map (λ n. actors_of n h) (nodes_below s.nodes)
+
+-- the lowest actor that has a wake left and may wake
+abbrev pub next_wake : Scripted → List Event → Option Actor
+next_wake s h = find (λ a. nat_lt 0 (wakes_left s a h) && is_possible s (Wake a) h) (actors s h)
