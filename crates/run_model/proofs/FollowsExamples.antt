@@ -2,14 +2,14 @@
 use Rattle.std.specs.Prelude.{◌≡◌, ℕ, true, false, List, [], ◌∷◌, ◌++◌, map, refl, Some, None}
 use Rattle.std.specs.List.{range_with_len}
 use Rattle.history_model.specs.declared.events.Event.{Event}
-use Rattle.history_model.specs.declared.events.Event.TheVariants.{Seed, Wake, Take, Spawn, Send, Drop, Rest, Flush, Publish, Window, Admit, Lose, Repeat, Crash, Remove, Hand, Sweep}
+use Rattle.history_model.specs.declared.events.Event.TheVariants.{Seed, Wake, Take, Spawn, Send, Drop, Retire, Rest, Flush, Publish, Window, Admit, Lose, Repeat, Crash, Remove, Hand, Sweep}
 use Rattle.history_model.specs.Rows.{actor, onto}
 use Rattle.script_reader.specs.Valid.{Scripted}
 use Rattle.run_model.specs.Planned.{is_possible}
 use Rattle.run_model.specs.Doing.{beginning}
 use Rattle.run_model.specs.Follows.{Follows, added, are_allowed, is_allowed, is_over}
 use Rattle.run_model.specs.Schedule.{schedule}
-use Rattle.run_model.proofs.Scripts.{breeder, maker_friend_poke, pair}
+use Rattle.run_model.proofs.Scripts.{breeder, maker_friend_poke, pair, quitters}
 
 -- The fixed schedule of a script of less than 64 turns follows it.
 
@@ -137,6 +137,13 @@ spent-over = refl
 
 wake-not_over : is_over pair (beginning pair) ≡ false
 wake-not_over = refl
+
+abbrev quit : List Event
+quit =
+    Wake (actor 0 0) ∷ Retire (actor 0 0) ∷ Rest (actor 0 0) ∷ Wake (actor 1 0) ∷ Retire (actor 1 0) ∷ Rest (actor 1 0) ∷ []
+
+retired-over : is_over quitters (after quitters quit) ≡ true
+retired-over = refl
 
 -- What one operation adds: the crash that is due to a rest, and a publish to the flush of the 32nd entry.
 

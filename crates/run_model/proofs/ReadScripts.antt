@@ -80,8 +80,9 @@ draft-in d draft h =
     let losses = two_steps (links_at words.Losses words.Loss nodes.0 d) _ draft ties.2 in
     let repeats = two_steps (links_at words.Repeats words.Repeat nodes.0 d) _ draft losses.2 in
     let crashes = two_steps (crashes_at nodes.0 d) _ draft repeats.2 in
-    let turns = two_steps (number_at words.Turns 1 1000001 d) _ draft crashes.2 in
-    let read : Draft = record { nodes = nodes.0; behaviours = behaviours.0; seeds = seeds.0; ties = ties.0; losses = losses.0; repeats = repeats.0; crashes = crashes.0; turns = turns.0 } in
+    let with_turns : ℕ → Draft = λ n. record { nodes = nodes.0; behaviours = behaviours.0; seeds = seeds.0; ties = ties.0; losses = losses.0; repeats = repeats.0; crashes = crashes.0; turns = n } in
+    let turns = two_steps (number_at words.Turns 1 1000001 d) (λ n. Ok (with_turns n)) draft crashes.2 in
+    let read = with_turns turns.0 in
     let seed_items = two_steps (array_at words.Seeds 4096 d) _ seeds.0 seeds.1 in
     let tie_items = two_steps (optional_at words.Ties 4096 d) _ ties.0 ties.1 in
     subst IsDraftIn {x = read} (made read draft turns.2) (record {
