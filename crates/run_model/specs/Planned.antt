@@ -73,25 +73,25 @@ crash_due s (Rest a ∷ p) =
 crash_due s h = None
 
 -- the lowest number with a copy on the link
-abbrev pub head : ℕ → ℕ → List Event → Option ℕ
-head f d h = find (λ k. nat_lt 0 (copies f d k h)) (range_with_len 0 (length (sent f d h)))
+abbrev pub lowest_copy : ℕ → ℕ → List Event → Option ℕ
+lowest_copy f d h = find (λ k. nat_lt 0 (copies f d k h)) (range_with_len 0 (length (sent f d h)))
 
 -- whether a row of the plan names the copy
-abbrev pub is_in : ℕ → ℕ → ℕ → List LinkRow → Bool
-is_in f d k rows = list_any (same_row (link_row f d k)) rows
+abbrev pub has_row : ℕ → ℕ → ℕ → List LinkRow → Bool
+has_row f d k rows = list_any (same_row (link_row f d k)) rows
 
 -- what happens to the copy: it is repeated where the plan says so and no earlier event used that row, else lost likewise,
 -- else admitted
 abbrev pub carry : Scripted → ℕ → ℕ → ℕ → List Event → Event
 carry s f d k h =
     let plan : Planned = s.plan in
-    if is_in f d k plan.repeats && not (list_any (is_repeat f d k) h) then Repeat f d k
-    else if is_in f d k plan.losses && not (list_any (is_lose f d k) h) then Lose f d k
+    if has_row f d k plan.repeats && not (list_any (is_repeat f d k) h) then Repeat f d k
+    else if has_row f d k plan.losses && not (list_any (is_lose f d k) h) then Lose f d k
     else Admit f d k
 
 -- what happens next on the link
 abbrev pub next_on_link : Scripted → ℕ → ℕ → List Event → Option Event
-next_on_link s f d h = option_map (λ k. carry s f d k h) (head f d h)
+next_on_link s f d h = option_map (λ k. carry s f d k h) (lowest_copy f d h)
 
 -- What is possible next.
 

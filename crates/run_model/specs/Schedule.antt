@@ -50,10 +50,11 @@ ended_turn s h = rounded s (ended h) (crashed (crash_due s h) h)
 abbrev pub whole_turn : Scripted → Actor → List Event → List Event
 whole_turn s a h = ended_turn s (turn_done s a h)
 
--- the turn of the lowest actor that may take a message, else of the lowest that has a wake left and may wake
+-- the whole turn of the planned wake
 abbrev pub woken_turn : Scripted → List Event → Option (List Event)
 woken_turn s h = option_map (λ a. whole_turn s a (Wake a ∷ h)) (next_wake s h)
 
+-- the whole turn of the lowest actor that may take a message, else that of the planned wake
 abbrev pub next_turn : Scripted → List Event → Option (List Event)
 next_turn s h =
     elim (find (λ a. is_possible s (Take a) h) (actors s h)) as (λ _. Option (List Event)) [
