@@ -108,6 +108,13 @@ one_turn =
 budget-spent : IsSpoiledBy (maker_friend_poke [] [] 1) one_turn (Take (actor 1 0))
 budget-spent = (refl, refl, refl)
 
+-- each turn counts, also that of a message
+abbrev two_turns : List Event
+two_turns = one_turn ++ Take (actor 2 0) ∷ []
+
+turns-counted : IsSpoiledBy (maker_friend_poke [] [] 2) two_turns (Take (actor 1 0))
+turns-counted = (refl, refl, refl)
+
 -- a crash comes where it is due, and nothing else before it
 abbrev crash-near : List Event
 crash-near = one_turn ++ Take (actor 2 0) ∷ Send (actor 2 0) (actor 0 1) [] ∷ Drop (actor 2 0) (actor 0 1) ∷ []

@@ -16,3 +16,4 @@ pub mod Scheduled
 pub mod SeedsLegal
 pub mod ReadScripts
 pub mod FirstLimits
+pub mod TurnsDue

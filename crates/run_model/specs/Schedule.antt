@@ -13,8 +13,8 @@ use Rattle.journal_model.specs.Limits.{limit_passed}
 use Rattle.behaviour_lang.specs.Steps.{Left, visible, whole}
 use Rattle.behaviour_lang.specs.declared.act.Act.{Act}
 use Rattle.script_reader.specs.Valid.{Scripted}
-use Rattle.run_model.specs.Doing.{beginning, cluster_of, doing, event_of}
-use Rattle.run_model.specs.Planned.{actors, is_possible, next_wake, crash_due, ended, is_within_budget, next_on_link}
+use Rattle.run_model.specs.Doing.{beginning, cluster_of, doing, due, event_of}
+use Rattle.run_model.specs.Planned.{actors, crash_due, ended, is_possible, is_rest, is_within_budget, next_on_link, next_wake}
 use Rattle.run_model.specs.Round.{round}
 use Rattle.run_model.specs.declared.run_laws.TheConstants.{TURNS_PER_ROUND}
 
@@ -33,6 +33,11 @@ acts_of_turn a l h = (let o = visible (whole l (children a (length l.instrs) h))
 -- a does these acts, and rests
 abbrev pub turn_done : Scripted → Actor → List Event → List Event
 turn_done s a h = (let d = doing s a h in Rest a ∷ onto h (map (λ act. event_of a (Some act)) (acts_of_turn a d.turn h)))
+
+-- the events q, newest first, are acts of a that were due, one after another, from h on
+abbrev pub AreDue : Scripted → Actor → List Event → List Event → Type 0
+AreDue s a [] h = Unit {0}
+AreDue s a (e ∷ q) h = (e ≡ due s a (q ++ h)) × (is_rest e ≡ false) × AreDue s a q h
 
 -- the crash that is due comes with the end of the turn, and a round after every 64th turn that ended
 abbrev pub crashed : Option ℕ → List Event → List Event

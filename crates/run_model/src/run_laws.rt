@@ -1,8 +1,9 @@
 //! The laws of runs and of the fixed schedule, in all scripts. Each function does nothing, and its contract is the law.
-ghost use Rattle.std.specs.Prelude.{◌≡◌, ℕ, true, List, None};
+ghost use Rattle.std.specs.Prelude.{◌≡◌, ◌++◌, ◌∷◌, ℕ, true, List, None};
 ghost use Rattle.crgc_ids.specs.Actor.{Actor};
 ghost use Rattle.crgc_ids.specs.declared.Which.{Which};
 ghost use Rattle.history_model.specs.declared.events.Event.{Event};
+ghost use Rattle.history_model.specs.declared.events.Event.TheVariants.{Rest};
 ghost use Rattle.history_model.specs.Legal.{IsLegal, refusal};
 ghost use Rattle.history_model.specs.State.{is_busy, is_up};
 ghost use Rattle.script_reader.specs.Scripts.{StandsFor};
@@ -10,7 +11,7 @@ ghost use Rattle.script_reader.specs.Valid.{Scripted};
 ghost use Rattle.run_model.specs.Doing.{beginning, cluster_of, due, is_in_ranges};
 ghost use Rattle.run_model.specs.Follows.{Follows, IsRun, IsUnfinished, is_allowed};
 ghost use Rattle.run_model.specs.Planned.{crash_due};
-ghost use Rattle.run_model.specs.Schedule.{IsFirstLimit, IsFixed, IsWithinLimits, schedule};
+ghost use Rattle.run_model.specs.Schedule.{AreDue, IsFirstLimit, IsFixed, IsWithinLimits, schedule, turn_done};
 
 /// After so many ended turns the fixed schedule makes a round.
 pub const TURNS_PER_ROUND: usize = 64;
@@ -34,6 +35,12 @@ pub fn acts_of_turns_are_legal()
         → is_busy a h ≡ true → is_up a.node h ≡ true → refusal (cluster_of s) (due s a h) h ≡ None }
     ensures allowed { (s : Scripted) (a : Actor) (h : List Event) → is_in_ranges s ≡ true → IsRun s h
         → is_busy a h ≡ true → is_up a.node h ≡ true → crash_due s h ≡ None → is_allowed s (due s a h) h ≡ true }
+{}
+
+/// Who makes what is due in an actor's turn, act by act, until the rest is due, has made the whole turn of the fixed schedule.
+pub fn what_is_due_is_the_whole_turn()
+    ensures { (s : Scripted) (a : Actor) (q h : List Event) → AreDue s a q h → due s a (q ++ h) ≡ Rest a
+        → turn_done s a h ≡ Rest a ∷ (q ++ h) }
 {}
 
 /// The history of each run is legal, also while its closing round is made and where that has closed it.
