@@ -7,7 +7,7 @@ use Rattle.history_model.specs.Rows.{actor, onto}
 use Rattle.script_reader.specs.Valid.{Scripted}
 use Rattle.run_model.specs.Planned.{is_possible}
 use Rattle.run_model.specs.Doing.{beginning}
-use Rattle.run_model.specs.Follows.{Follows, added, are_allowed, is_allowed, is_over}
+use Rattle.run_model.specs.Follows.{Follows, added, are_allowed, begins_operation, is_allowed, is_over}
 use Rattle.run_model.specs.Schedule.{schedule}
 use Rattle.run_model.proofs.Scripts.{breeder, maker_friend_poke, pair, quitters}
 
@@ -165,3 +165,11 @@ publish-added = refl
 
 none-added : added (breeder 40) (Flush (actor 0 30)) (flushed 30) ≡ None
 none-added = refl
+
+-- An operation wakes the lowest actor that is planned, and no operation begins with a crash.
+
+woken-lowest : (begins_operation quitters (Wake (actor 0 0)) (beginning quitters) ≡ true) × (begins_operation quitters (Wake (actor 1 0)) (beginning quitters) ≡ false)
+woken-lowest = (refl, refl)
+
+crash-begins_none : begins_operation (maker_friend_poke [] [] 100) (Crash 2) (after (maker_friend_poke [] [] 100) (crash-near ++ Rest (actor 2 0) ∷ [])) ≡ false
+crash-begins_none = refl

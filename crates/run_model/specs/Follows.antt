@@ -134,7 +134,8 @@ limit_of s (Some e) h = limit_passed (cluster_of s) e h
 abbrev pub limit_with : Scripted → Event → List Event → Option Which
 limit_with s e h = option_or (limit_of s (Some e) h) (limit_of s (added s e h) (e ∷ h))
 
--- an operation picks the wake, the window or the removal that it makes: the lowest that is possible
+-- an operation may begin with the event: not with a crash, and of the wakes, windows and removals that are possible with the
+-- lowest
 abbrev pub is_node : Option ℕ → ℕ → Bool
 is_node None n = false
 is_node (Some m) n = m == n
@@ -143,16 +144,17 @@ abbrev pub is_actor : Option Actor → Actor → Bool
 is_actor None a = false
 is_actor (Some b) a = same_actor b a
 
-abbrev pub is_picked : Scripted → Event → List Event → Bool
-is_picked s (Wake a) h = is_actor (next_wake s h) a
-is_picked s (Window d f) h = is_node (find (λ n. is_possible s (Window d n) h) (nodes_below s.nodes)) f
-is_picked s (Remove m n) h = is_node (find (λ k. is_possible s (Remove m k) h) (nodes_below s.nodes)) n
-is_picked s e h = true
+abbrev pub begins_operation : Scripted → Event → List Event → Bool
+begins_operation s (Wake a) h = is_actor (next_wake s h) a
+begins_operation s (Window d f) h = is_node (find (λ n. is_possible s (Window d n) h) (nodes_below s.nodes)) f
+begins_operation s (Remove m n) h = is_node (find (λ k. is_possible s (Remove m k) h) (nodes_below s.nodes)) n
+begins_operation s (Crash n) h = false
+begins_operation s e h = true
 
 -- an unfinished run could next pass the limit: an event that an operation could add passes it, alone or with what the
 -- operation adds to it, or the next event of the closing round does
 abbrev pub CouldPass : Scripted → List Event → Which → Type 0
 CouldPass s h w =
     (e : Event)
-    × ((IsRun s (e ∷ h) × (is_picked s e h ≡ true) × (limit_with s e h ≡ Some w))
+    × ((IsRun s (e ∷ h) × (begins_operation s e h ≡ true) × (limit_with s e h ≡ Some w))
     ⊎ (IsClosing s (e ∷ h) × (limit_of s (Some e) h ≡ Some w)))
