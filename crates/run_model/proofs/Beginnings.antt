@@ -19,13 +19,13 @@ use Rattle.run_model.proofs.HeldNames.{AllHold, HoldsNames, born-before}
 use Rattle.run_model.proofs.NextLaws.{naming, naming-bind, one_if}
 
 -- only seeds and ties happened so far
-abbrev IsStart : List Event → Type 0
+abbrev pub IsStart : List Event → Type 0
 IsStart [] = Unit {0}
 IsStart (Seed n ∷ p) = IsStart p
 IsStart (Tie a b ∷ p) = IsStart p
 IsStart (e ∷ p) = ⊥
 
-start-seeds : (seeds : List SeedRow) (h : List Event) → IsStart h → IsStart (onto h (map (λ (x : SeedRow). Seed x.node) seeds))
+pub start-seeds : (seeds : List SeedRow) (h : List Event) → IsStart h → IsStart (onto h (map (λ (x : SeedRow). Seed x.node) seeds))
 start-seeds [] h start = start
 start-seeds (x ∷ seeds) h start = start-seeds seeds (Seed x.node ∷ h) start
 

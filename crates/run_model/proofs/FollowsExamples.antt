@@ -2,13 +2,14 @@
 use Rattle.std.specs.Prelude.{◌≡◌, ℕ, true, false, List, [], ◌∷◌, ◌++◌, map, refl, Some, None}
 use Rattle.std.specs.List.{range_with_len}
 use Rattle.history_model.specs.declared.events.Event.{Event}
-use Rattle.history_model.specs.declared.events.Event.TheVariants.{Seed, Wake, Take, Spawn, Send, Drop, Rest, Flush, Publish, Window, Admit, Lose, Repeat, Crash, Remove, Hand, Sweep}
+use Rattle.history_model.specs.declared.events.Event.TheVariants.{Seed, Wake, Take, Spawn, Send, Drop, Retire, Rest, Flush, Publish, Window, Admit, Lose, Repeat, Crash, Remove, Hand, Sweep}
 use Rattle.history_model.specs.Rows.{actor, onto}
 use Rattle.script_reader.specs.Valid.{Scripted}
+use Rattle.run_model.specs.Planned.{is_possible}
 use Rattle.run_model.specs.Doing.{beginning}
-use Rattle.run_model.specs.Follows.{Follows, added, are_allowed, is_allowed, is_over}
-use Rattle.run_model.specs.Schedule.{is_possible, schedule}
-use Rattle.run_model.proofs.Scripts.{breeder, maker_friend_poke, pair}
+use Rattle.run_model.specs.Follows.{Follows, added, are_allowed, begins_operation, is_allowed, is_over}
+use Rattle.run_model.specs.Schedule.{schedule}
+use Rattle.run_model.proofs.Scripts.{breeder, maker_friend_poke, pair, quitters}
 
 -- The fixed schedule of a script of less than 64 turns follows it.
 
@@ -107,6 +108,13 @@ one_turn =
 budget-spent : IsSpoiledBy (maker_friend_poke [] [] 1) one_turn (Take (actor 1 0))
 budget-spent = (refl, refl, refl)
 
+-- each turn counts, also that of a message
+abbrev two_turns : List Event
+two_turns = one_turn ++ Take (actor 2 0) ∷ []
+
+turns-counted : IsSpoiledBy (maker_friend_poke [] [] 2) two_turns (Take (actor 1 0))
+turns-counted = (refl, refl, refl)
+
 -- a crash comes where it is due, and nothing else before it
 abbrev crash-near : List Event
 crash-near = one_turn ++ Take (actor 2 0) ∷ Send (actor 2 0) (actor 0 1) [] ∷ Drop (actor 2 0) (actor 0 1) ∷ []
@@ -137,6 +145,13 @@ spent-over = refl
 wake-not_over : is_over pair (beginning pair) ≡ false
 wake-not_over = refl
 
+abbrev quit : List Event
+quit =
+    Wake (actor 0 0) ∷ Retire (actor 0 0) ∷ Rest (actor 0 0) ∷ Wake (actor 1 0) ∷ Retire (actor 1 0) ∷ Rest (actor 1 0) ∷ []
+
+retired-over : is_over quitters (after quitters quit) ≡ true
+retired-over = refl
+
 -- What one operation adds: the crash that is due to a rest, and a publish to the flush of the 32nd entry.
 
 crash-added : added (maker_friend_poke [] [] 100) (Rest (actor 2 0)) (after (maker_friend_poke [] [] 100) crash-near) ≡ Some (Crash 2)
@@ -150,3 +165,11 @@ publish-added = refl
 
 none-added : added (breeder 40) (Flush (actor 0 30)) (flushed 30) ≡ None
 none-added = refl
+
+-- An operation wakes the lowest actor that is planned, and no operation begins with a crash.
+
+woken-lowest : (begins_operation quitters (Wake (actor 0 0)) (beginning quitters) ≡ true) × (begins_operation quitters (Wake (actor 1 0)) (beginning quitters) ≡ false)
+woken-lowest = (refl, refl)
+
+crash-begins_none : begins_operation (maker_friend_poke [] [] 100) (Crash 2) (after (maker_friend_poke [] [] 100) (crash-near ++ Rest (actor 2 0) ∷ [])) ≡ false
+crash-begins_none = refl

@@ -13,3 +13,7 @@ pub mod Beginnings
 pub mod Runs
 pub mod TurnsDone
 pub mod Scheduled
+pub mod SeedsLegal
+pub mod ReadScripts
+pub mod FirstLimits
+pub mod TurnsDue

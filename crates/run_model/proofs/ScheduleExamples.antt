@@ -2,7 +2,7 @@
 use Rattle.std.specs.Prelude.{◌≡◌, ℕ, List, [], ◌∷◌, ◌++◌, length, map, flat_map, refl}
 use Rattle.std.specs.List.{range_with_len}
 use Rattle.history_model.specs.declared.events.Event.{Event}
-use Rattle.history_model.specs.declared.events.Event.TheVariants.{Seed, Tie, Wake, Take, Spawn, Send, Drop, Rest, Flush, Publish, Window, Admit, Lose, Repeat, Crash, Remove, Hand, Sweep}
+use Rattle.history_model.specs.declared.events.Event.TheVariants.{Seed, Tie, Wake, Take, Spawn, Send, Drop, Retire, Rest, Flush, Publish, Window, Admit, Lose, Repeat, Crash, Remove, Hand, Sweep}
 use Rattle.history_model.specs.Cluster.{births}
 use Rattle.history_model.specs.Live.{actors_of}
 use Rattle.history_model.specs.Rows.{actor, onto}
@@ -16,7 +16,7 @@ use Rattle.fault_plan.specs.Rows.{link_row}
 use Rattle.run_model.specs.Doing.{cluster_of}
 use Rattle.run_model.specs.Round.{round}
 use Rattle.run_model.specs.Schedule.{IsDone, IsFixed, schedule}
-use Rattle.run_model.proofs.Scripts.{breeder, maker_friend_poke, small_workload}
+use Rattle.run_model.proofs.Scripts.{breeder, maker_friend_poke, quitters, small_workload}
 
 -- Messages, a crash that comes with the end of a turn, and a message of the crashed node.
 
@@ -78,6 +78,24 @@ repeated-next : schedule (maker_friend_poke [] (link_row 0 2 0 ∷ []) 100) 4 �
     Drop (actor 0 0) (actor 0 1) ∷ Rest (actor 0 0) ∷ Admit 0 1 0 ∷ Repeat 0 2 0 ∷ Admit 0 2 0 ∷ []
     )
 repeated-next = refl
+
+-- Of the rows for one copy the repeat is used first and then the loss, each once; the copy that is left is admitted.
+
+both_rows-next : schedule (maker_friend_poke (link_row 0 2 0 ∷ []) (link_row 0 2 0 ∷ []) 100) 5 ≡ onto [] (
+    Seed 0 ∷ Seed 1 ∷ Seed 2 ∷ Tie (actor 0 0) (actor 1 0) ∷ Tie (actor 0 0) (actor 2 0) ∷ Wake (actor 0 0) ∷
+    Spawn (actor 0 0) ∷ Send (actor 0 0) (actor 1 0) (actor 0 1 ∷ []) ∷ Send (actor 0 0) (actor 2 0) (actor 0 1 ∷ []) ∷
+    Drop (actor 0 0) (actor 0 1) ∷ Rest (actor 0 0) ∷ Admit 0 1 0 ∷ Repeat 0 2 0 ∷ Lose 0 2 0 ∷ Admit 0 2 0 ∷ []
+    )
+both_rows-next = refl
+
+-- The lowest actor is woken first, whatever the order of the rows; and a wake that is left of who is no root is not planned.
+
+quitters-fixed : IsFixed quitters (onto [] (
+    Seed 1 ∷ Seed 0 ∷ Wake (actor 0 0) ∷ Retire (actor 0 0) ∷ Rest (actor 0 0) ∷ Wake (actor 1 0) ∷ Retire (actor 1 0) ∷ Rest (actor 1 0) ∷
+    Flush (actor 0 0) ∷ Publish 0 ∷ Flush (actor 1 0) ∷ Publish 1 ∷ Hand 0 0 0 ∷ Hand 0 1 0 ∷ Hand 1 0 0 ∷ Hand 1 1 0 ∷
+    Sweep 0 ∷ Sweep 1 ∷ []
+    ))
+quitters-fixed = (2, refl, refl)
 
 -- A generated workload: how many actors were born and stopped on each node.
 

@@ -19,10 +19,10 @@ use Rattle.history_model.proofs.Lists.{IsAmong-from_flat_map}
 use Rattle.fault_plan.specs.Rows.{Planned, crash_of}
 use Rattle.script_reader.specs.Valid.{Scripted}
 use Rattle.run_model.specs.Doing.{beginning, cluster_of, doing}
-use Rattle.run_model.specs.Planned.{carry, ended, ended_on, head, is_in, is_within_budget, next_on_link, node_if, wakes_left}
+use Rattle.run_model.specs.Planned.{carry, ended, ended_on, lowest_copy, has_row, is_within_budget, next_on_link, node_if, wakes_left, actors, is_possible}
 use Rattle.run_model.specs.Follows.{Follows, IsClosing, IsUnfinished}
 use Rattle.run_model.specs.Round.{round}
-use Rattle.run_model.specs.Schedule.{IsDone, IsFixed, actors, acts_of_turn, carries, crashed, ended_turn, is_possible, next_turn, one_more, rounded, schedule, stays, whole_turn, woken_turn}
+use Rattle.run_model.specs.Schedule.{IsDone, IsFixed, acts_of_turn, carries, crashed, ended_turn, next_turn, one_more, rounded, schedule, stays, whole_turn, woken_turn}
 use Rattle.run_model.specs.declared.run_laws.TheConstants.{TURNS_PER_ROUND}
 use Rattle.run_model.proofs.ActsLegal.{busy-born, none-broken}
 use Rattle.run_model.proofs.Beginnings.{beginning-holds}
@@ -34,7 +34,7 @@ use Rattle.run_model.proofs.TurnsDone.{IsBusyIn, acts-done}
 -- ---- it gives one history at most
 
 -- once nothing is possible the history stays
-done-stays : (s : Scripted) (k m : ℕ) → k ≤ m → IsDone s k → schedule s m ≡ schedule s k
+pub done-stays : (s : Scripted) (k m : ℕ) → k ≤ m → IsDone s k → schedule s m ≡ schedule s k
 done-stays s k zero le done = (let same : zero ≡ k = omega (arith, le) in ap (schedule s) same)
 done-stays s k (suc m) le done =
     elim (cases_lt m k) [
@@ -87,8 +87,8 @@ module _ {X Y : Type 0} (f : X → Option Y) (y : Y) where
 carry-due : (s : Scripted) (f d k : ℕ) (h g : List Event) → IsDue s (carry s f d k h) g
 carry-due s f d k h g =
     let plan : Planned = s.plan in
-    let repeats = is_in f d k plan.repeats && not (list_any (is_repeat f d k) h) in
-    let loses = is_in f d k plan.losses && not (list_any (is_lose f d k) h) in
+    let repeats = has_row f d k plan.repeats && not (list_any (is_repeat f d k) h) in
+    let loses = has_row f d k plan.losses && not (list_any (is_lose f d k) h) in
     elim repeats as (λ v. IsDue s (if v then Repeat f d k else if loses then Lose f d k else Admit f d k) g) [
       | true ↦ tt
       | false ↦ elim loses as (λ v. IsDue s (if v then Lose f d k else Admit f d k) g) [ true ↦ tt | false ↦ tt ]
@@ -100,7 +100,7 @@ carries-due s e h among =
     let f = source.0 in
     let link = among-filter_map (λ d. next_on_link s f d h) e (nodes_below s.nodes) source.2 in
     let d = link.0 in
-    elim (head f d h) as (λ v. option_map (λ k. carry s f d k h) v ≡ Some e → IsDue s e h) [
+    elim (lowest_copy f d h) as (λ v. option_map (λ k. carry s f d k h) v ≡ Some e → IsDue s e h) [
       | None ↦ λ none. absurd (none-some e none)
       | Some k ↦ λ some. subst (λ x. IsDue s x h) (same_Some (carry s f d k h) e some) (carry-due s f d k h h)
     ] link.1

@@ -2,7 +2,7 @@
 use Rattle.std.specs.Prelude.{ℕ, codes, List, [], ◌∷◌}
 use Rattle.behaviour_lang.specs.declared.code.Behaviour.{Behaviour}
 use Rattle.behaviour_lang.specs.declared.instr.Instr.{Instr}
-use Rattle.behaviour_lang.specs.declared.instr.Instr.TheVariants.{Spawn, Send, Drop, Keep}
+use Rattle.behaviour_lang.specs.declared.instr.Instr.TheVariants.{Spawn, Send, Drop, Keep, Retire}
 use Rattle.behaviour_lang.specs.declared.instr.Name.{Name}
 use Rattle.behaviour_lang.specs.declared.instr.Name.TheVariants.{Message, Local}
 use Rattle.fault_plan.specs.Rows.{link_row}
@@ -91,5 +91,16 @@ pair = record {
   seeds = seed 0 0 1 ∷ seed 1 1 1 ∷ seed 1 1 1 ∷ [];
   ties = tie 0 1 (codes "b") ∷ [];
   plan = record { losses = []; repeats = link_row 0 1 0 ∷ []; crashes = crash 1 2 ∷ [] };
+  turns = 10;
+}
+
+-- two seeds that retire with their first turn; the first row is that of the higher actor, which has a wake more
+abbrev pub quitters : Scripted
+quitters = record {
+  nodes = 2;
+  code = behaviour (codes "quitter") (Retire ∷ Retire ∷ []) [] ∷ [];
+  seeds = seed 1 0 2 ∷ seed 0 0 1 ∷ [];
+  ties = [];
+  plan = record { losses = []; repeats = []; crashes = [] };
   turns = 10;
 }

@@ -40,7 +40,7 @@ Does s a done =
     (h : List Event) (k : ℕ) → IsBusyIn s a h → (let d = doing s a h in let l = d.turn in length l.instrs ≤ k) → (let d = doing s a h in acts_with d.turn (children a k h) ≡ done)
     → IsBusyIn s a (onto h (act_events a done))
 
-picked : (v : Bool) (f g : Doing) → v ≡ true → (elim v as (λ _. Doing) [ true ↦ f | false ↦ g ]) ≡ f
+pub picked : (v : Bool) (f g : Doing) → v ≡ true → (elim v as (λ _. Doing) [ true ↦ f | false ↦ g ]) ≡ f
 picked true f g e = refl
 picked false f g e = absurd (false≢true e)
 

@@ -1,6 +1,7 @@
 -- Who does what, by a script and a history: the history's beginning, the behaviour and the names of each actor, and what
 -- is left of the turn that it is in.
-use Rattle.std.specs.Prelude.{ℕ, Bool, true, false, codes, if◌then◌else◌, List, [], ◌∷◌, ◌++◌, map, get_or, Option, Some, None}
+use Rattle.std.specs.Prelude.{ℕ, ◌==◌, ◌&&◌, Bool, true, false, not, nat_lt, codes, if◌then◌else◌, List, [], ◌∷◌, ◌++◌, length, map, get_or, Option, Some, None}
+use Rattle.std.specs.List.{list_all}
 use Rattle.crgc_ids.specs.Actor.{Actor, same_actor}
 use Rattle.history_model.specs.declared.events.Event.{Event}
 use Rattle.history_model.specs.declared.events.Event.TheVariants.{Seed, Tie, Wake, Take, Spawn, Send, Drop, Retire, Rest}
@@ -43,6 +44,14 @@ tie_of s t = Tie (seed_number s t.from) (seed_number s t.to)
 -- the seeds and the ties, in order
 abbrev pub beginning : Scripted → List Event
 beginning s = onto (onto [] (map (λ (x : SeedRow). Seed x.node) s.seeds)) (map (tie_of s) s.ties)
+
+-- a script that stays in its ranges: seeds are on nodes of the cluster, and ties lead from seeds to other seeds
+abbrev pub is_tie_in : ℕ → TieRow → Bool
+is_tie_in seeds t = nat_lt t.from seeds && (nat_lt t.to seeds && not (t.to == t.from))
+
+abbrev pub is_in_ranges : Scripted → Bool
+is_in_ranges s =
+    list_all (λ (x : SeedRow). nat_lt x.node s.nodes) s.seeds && list_all (is_tie_in (length s.seeds)) s.ties
 
 -- Each actor as it is born.
 
@@ -112,7 +121,10 @@ doing s a [] = as_seed s a
 doing s a (Wake b ∷ p) =
     elim (same_actor b a) as (λ _. Doing) [ true ↦ begins s lists.Wake [] (is_root a p) (doing s a p) | false ↦ doing s a p ]
 doing s a (Take b ∷ p) =
-    elim (same_actor b a) as (λ _. Doing) [ true ↦ begins s lists.Message (first_refs (waiting a p)) (is_root a p) (doing s a p) | false ↦ doing s a p ]
+    elim (same_actor b a) as (λ _. Doing) [
+      | true ↦ begins s lists.Message (first_refs (waiting a p)) (is_root a p) (doing s a p)
+      | false ↦ doing s a p
+    ]
 doing s a (Spawn b ∷ p) =
     elim (same_actor b a) as (λ _. Doing) [
       | true ↦ acts_on (Some (newborn b.node p)) (doing s a p)

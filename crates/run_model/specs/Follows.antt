@@ -1,17 +1,18 @@
 -- Which histories follow a script.
 use Rattle.std.specs.Prelude.{ℕ, ◌+◌, ◌≡◌, ◌⊎◌, ◌==◌, ◌&&◌, ◌||◌, Bool, true, false, not, is_none, nat_lt, if◌then◌else◌, List, [], ◌∷◌, ◌++◌, Option, Some, None}
+use Rattle.std.specs.List.{find}
 use Rattle.std.specs.Option.{option_map, option_or}
 use Rattle.crgc_ids.specs.Actor.{Actor, same_actor}
+use Rattle.crgc_ids.specs.Nodes.{nodes_below}
 use Rattle.crgc_ids.specs.declared.Which.{Which}
 use Rattle.history_model.specs.declared.events.Event.{Event}
 use Rattle.history_model.specs.declared.events.Event.TheVariants.{Seed, Tie, Wake, Take, Spawn, Send, Drop, Retire, Rest, Flush, Publish, Window, Admit, Lose, Repeat, Crash, Remove, Hand, Sweep}
 use Rattle.history_model.specs.Folds.{was_handed}
-use Rattle.history_model.specs.Legal.{refusal}
 use Rattle.history_model.specs.Live.{busy_count, live_count}
 use Rattle.journal_model.specs.Limits.{limit_passed}
 use Rattle.script_reader.specs.Valid.{Scripted}
 use Rattle.run_model.specs.Doing.{beginning, cluster_of, due}
-use Rattle.run_model.specs.Planned.{crash_due, is_within_budget, next_on_link, planned, wakes_left}
+use Rattle.run_model.specs.Planned.{is_possible, next_wake, crash_due, is_within_budget, next_on_link, planned, wakes_left}
 use Rattle.run_model.specs.Round.{round}
 use Rattle.run_model.specs.declared.round_laws.TheConstants.{FLUSHES_PER_PUBLISH}
 
@@ -80,7 +81,7 @@ is_on_time e crash = is_none crash
 
 -- the event may come next
 abbrev pub is_allowed : Scripted → Event → List Event → Bool
-is_allowed s e h = is_on_time e (crash_due s h) && (fits s e h && is_none (refusal (cluster_of s) e h))
+is_allowed s e h = is_on_time e (crash_due s h) && (fits s e h && is_possible s e h)
 
 -- the events q, newest first, were allowed one after another from h on
 abbrev pub are_allowed : Scripted → List Event → List Event → Bool
@@ -133,8 +134,27 @@ limit_of s (Some e) h = limit_passed (cluster_of s) e h
 abbrev pub limit_with : Scripted → Event → List Event → Option Which
 limit_with s e h = option_or (limit_of s (Some e) h) (limit_of s (added s e h) (e ∷ h))
 
+-- an operation may begin with the event: not with a crash, and of the wakes, windows and removals that are possible with the
+-- lowest
+abbrev pub is_node : Option ℕ → ℕ → Bool
+is_node None n = false
+is_node (Some m) n = m == n
+
+abbrev pub is_actor : Option Actor → Actor → Bool
+is_actor None a = false
+is_actor (Some b) a = same_actor b a
+
+abbrev pub begins_operation : Scripted → Event → List Event → Bool
+begins_operation s (Wake a) h = is_actor (next_wake s h) a
+begins_operation s (Window d f) h = is_node (find (λ n. is_possible s (Window d n) h) (nodes_below s.nodes)) f
+begins_operation s (Remove m n) h = is_node (find (λ k. is_possible s (Remove m k) h) (nodes_below s.nodes)) n
+begins_operation s (Crash n) h = false
+begins_operation s e h = true
+
 -- an unfinished run could next pass the limit: an event that an operation could add passes it, alone or with what the
 -- operation adds to it, or the next event of the closing round does
 abbrev pub CouldPass : Scripted → List Event → Which → Type 0
 CouldPass s h w =
-    (e : Event) × ((IsRun s (e ∷ h) × (limit_with s e h ≡ Some w)) ⊎ (IsClosing s (e ∷ h) × (limit_of s (Some e) h ≡ Some w)))
+    (e : Event)
+    × ((IsRun s (e ∷ h) × (begins_operation s e h ≡ true) × (limit_with s e h ≡ Some w))
+    ⊎ (IsClosing s (e ∷ h) × (limit_of s (Some e) h ≡ Some w)))

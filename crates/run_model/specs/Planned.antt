@@ -1,18 +1,22 @@
--- What a script plans, and how much of it a history has used: turns, wakes, crashes, and copies lost and doubled.
-use Rattle.std.specs.Prelude.{ℕ, ◌-◌, ◌==◌, ◌&&◌, Bool, true, false, not, if◌then◌else◌, nat_lt, List, [], ◌∷◌, length, Option, Some, None}
+-- What a script plans, and how much of it a history has used: turns, wakes, crashes, and copies lost and doubled; and what is
+-- possible next.
+use Rattle.std.specs.Prelude.{ℕ, ◌-◌, ◌==◌, ◌&&◌, Bool, true, false, not, if◌then◌else◌, nat_lt, List, [], ◌∷◌, length, Option, Some, None, flat_map, is_none}
 use Rattle.std.specs.List.{find, list_any, range_with_len, sum_by}
 use Rattle.std.specs.Option.{option_map}
 use Rattle.crgc_ids.specs.Actor.{Actor, same_actor}
+use Rattle.crgc_ids.specs.Nodes.{nodes_below}
 use Rattle.history_model.specs.declared.events.Event.{Event}
 use Rattle.history_model.specs.declared.events.Event.TheVariants.{Wake, Take, Rest, Admit, Lose, Repeat}
 use Rattle.history_model.specs.Tally.{tally}
+use Rattle.history_model.specs.Legal.{refusal}
+use Rattle.history_model.specs.Live.{actors_of}
 use Rattle.history_model.specs.Messages.{sent, copies, is_lose, is_repeat}
 use Rattle.history_model.specs.State.{is_root, is_up}
 use Rattle.fault_plan.specs.Rows.{Planned, crash_of, link_row, same_row}
 use Rattle.fault_plan.specs.declared.links.LinkRow.{LinkRow}
 use Rattle.script_reader.specs.Valid.{Scripted}
 use Rattle.script_reader.specs.declared.script.Seed.{Seed as SeedRow}
-use Rattle.run_model.specs.Doing.{row_of, seed_actors}
+use Rattle.run_model.specs.Doing.{cluster_of, row_of, seed_actors}
 
 -- how many turns began, how many ended, and how many of these on node n
 abbrev pub is_begin : Event → Bool
@@ -69,22 +73,36 @@ crash_due s (Rest a ∷ p) =
 crash_due s h = None
 
 -- the lowest number with a copy on the link
-abbrev pub head : ℕ → ℕ → List Event → Option ℕ
-head f d h = find (λ k. nat_lt 0 (copies f d k h)) (range_with_len 0 (length (sent f d h)))
+abbrev pub lowest_copy : ℕ → ℕ → List Event → Option ℕ
+lowest_copy f d h = find (λ k. nat_lt 0 (copies f d k h)) (range_with_len 0 (length (sent f d h)))
 
 -- whether a row of the plan names the copy
-abbrev pub is_in : ℕ → ℕ → ℕ → List LinkRow → Bool
-is_in f d k rows = list_any (same_row (link_row f d k)) rows
+abbrev pub has_row : ℕ → ℕ → ℕ → List LinkRow → Bool
+has_row f d k rows = list_any (same_row (link_row f d k)) rows
 
 -- what happens to the copy: it is repeated where the plan says so and no earlier event used that row, else lost likewise,
 -- else admitted
 abbrev pub carry : Scripted → ℕ → ℕ → ℕ → List Event → Event
 carry s f d k h =
     let plan : Planned = s.plan in
-    if is_in f d k plan.repeats && not (list_any (is_repeat f d k) h) then Repeat f d k
-    else if is_in f d k plan.losses && not (list_any (is_lose f d k) h) then Lose f d k
+    if has_row f d k plan.repeats && not (list_any (is_repeat f d k) h) then Repeat f d k
+    else if has_row f d k plan.losses && not (list_any (is_lose f d k) h) then Lose f d k
     else Admit f d k
 
 -- what happens next on the link
 abbrev pub next_on_link : Scripted → ℕ → ℕ → List Event → Option Event
-next_on_link s f d h = option_map (λ k. carry s f d k h) (head f d h)
+next_on_link s f d h = option_map (λ k. carry s f d k h) (lowest_copy f d h)
+
+-- What is possible next.
+
+-- no rule refuses the event
+abbrev pub is_possible : Scripted → Event → List Event → Bool
+is_possible s e h = is_none (refusal (cluster_of s) e h)
+
+-- all actors, rising
+abbrev pub actors : Scripted → List Event → List Actor
+actors s h = flat_map (λ n. actors_of n h) (nodes_below s.nodes)
+
+-- the lowest actor that has a wake left and may wake
+abbrev pub next_wake : Scripted → List Event → Option Actor
+next_wake s h = find (λ a. nat_lt 0 (wakes_left s a h) && is_possible s (Wake a) h) (actors s h)

@@ -1,5 +1,5 @@
 -- The fixed schedule: the one history that a script has where one turn is done after the other.
-use Rattle.std.specs.Prelude.{ℕ, zero, suc, ◌≡◌, ◌⊎◌, ◌%◌, ◌==◌, ◌&&◌, Bool, true, false, is_none, nat_lt, List, [], ◌∷◌, ◌++◌, length, map, flat_map, Option, Some, None}
+use Rattle.std.specs.Prelude.{ℕ, zero, suc, ◌≡◌, ◌⊎◌, ◌%◌, ◌==◌, true, false, List, [], ◌∷◌, ◌++◌, length, map, flat_map, Option, Some, None}
 use Rattle.std.specs.List.{filter_map, find, range_with_len}
 use Rattle.std.specs.Option.{option_map}
 use Rattle.crgc_ids.specs.Actor.{Actor}
@@ -8,29 +8,19 @@ use Rattle.crgc_ids.specs.declared.Which.{Which}
 use Rattle.history_model.specs.declared.events.Event.{Event}
 use Rattle.history_model.specs.declared.events.Event.TheVariants.{Wake, Take, Rest, Crash}
 use Rattle.history_model.specs.Cluster.{Cluster, births}
-use Rattle.history_model.specs.Legal.{refusal}
-use Rattle.history_model.specs.Live.{actors_of}
 use Rattle.history_model.specs.Rows.{onto}
 use Rattle.journal_model.specs.Limits.{limit_passed}
 use Rattle.behaviour_lang.specs.Steps.{Left, visible, whole}
 use Rattle.behaviour_lang.specs.declared.act.Act.{Act}
 use Rattle.script_reader.specs.Valid.{Scripted}
-use Rattle.run_model.specs.Doing.{beginning, cluster_of, doing, event_of}
-use Rattle.run_model.specs.Planned.{crash_due, ended, is_within_budget, next_on_link, wakes_left}
+use Rattle.run_model.specs.Doing.{beginning, cluster_of, doing, due, event_of}
+use Rattle.run_model.specs.Planned.{actors, crash_due, ended, is_possible, is_rest, is_within_budget, next_on_link, next_wake}
 use Rattle.run_model.specs.Round.{round}
 use Rattle.run_model.specs.declared.run_laws.TheConstants.{TURNS_PER_ROUND}
-
--- no rule refuses the event
-abbrev pub is_possible : Scripted → Event → List Event → Bool
-is_possible s e h = is_none (refusal (cluster_of s) e h)
 
 -- what is next on each link, by source and then by destination
 abbrev pub carries : Scripted → List Event → List Event
 carries s h = flat_map (λ f. filter_map (λ d. next_on_link s f d h) (nodes_below s.nodes)) (nodes_below s.nodes)
-
--- all actors, rising
-abbrev pub actors : Scripted → List Event → List Actor
-actors s h = flat_map (λ n. actors_of n h) (nodes_below s.nodes)
 
 -- so many actors that are born next on a's node
 abbrev pub children : Actor → ℕ → List Event → List Actor
@@ -43,6 +33,11 @@ acts_of_turn a l h = (let o = visible (whole l (children a (length l.instrs) h))
 -- a does these acts, and rests
 abbrev pub turn_done : Scripted → Actor → List Event → List Event
 turn_done s a h = (let d = doing s a h in Rest a ∷ onto h (map (λ act. event_of a (Some act)) (acts_of_turn a d.turn h)))
+
+-- the events q, newest first, are acts of a that were due, one after another, from h on
+abbrev pub AreDue : Scripted → Actor → List Event → List Event → Type 0
+AreDue s a [] h = Unit {0}
+AreDue s a (e ∷ q) h = (e ≡ due s a (q ++ h)) × (is_rest e ≡ false) × AreDue s a q h
 
 -- the crash that is due comes with the end of the turn, and a round after every 64th turn that ended
 abbrev pub crashed : Option ℕ → List Event → List Event
@@ -60,11 +55,11 @@ ended_turn s h = rounded s (ended h) (crashed (crash_due s h) h)
 abbrev pub whole_turn : Scripted → Actor → List Event → List Event
 whole_turn s a h = ended_turn s (turn_done s a h)
 
--- the turn of the lowest actor that may take a message, else of the lowest that has a wake left and may wake
+-- the whole turn of the planned wake
 abbrev pub woken_turn : Scripted → List Event → Option (List Event)
-woken_turn s h =
-    option_map (λ a. whole_turn s a (Wake a ∷ h)) (find (λ a. nat_lt 0 (wakes_left s a h) && is_possible s (Wake a) h) (actors s h))
+woken_turn s h = option_map (λ a. whole_turn s a (Wake a ∷ h)) (next_wake s h)
 
+-- the whole turn of the lowest actor that may take a message, else that of the planned wake
 abbrev pub next_turn : Scripted → List Event → Option (List Event)
 next_turn s h =
     elim (find (λ a. is_possible s (Take a) h) (actors s h)) as (λ _. Option (List Event)) [

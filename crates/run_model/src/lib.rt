@@ -1,4 +1,4 @@
-//! What a run does: definitions of rounds over a history, and their laws.
+//! What a run does: rounds, the turns of actors, the fixed schedule, and which histories follow a script; and their laws.
 #![tactic(auto)]
 
 pub mod round_laws;
