@@ -23,17 +23,19 @@ pub forgotten-alike : (old mid failed new : NodeState) (child : Actor) (Newborn 
 forgotten-alike old mid failed new child Newborn next bears alike node count others =
     let serial : child.serial ≡ length old.actors = ap (λ (a : Actor). a.serial) next in
     let number : new.number ≡ old.number = node.0 ∙ alike.0.0 ∙ bears.node.0 in
-    let up : new.up ≡ old.up = node.1 ∙ alike.0.1 ∙ bears.node.1 in
-    ((number, up, count ∙ serial), λ s. elim (cases_eq s (length old.actors)) [
-      | inl last ↦ (
-          let gone = state-past new s (omega (arith, count, serial, last)) in
-          let never = state-past old s (omega (arith, last)) in
-          let same : state_in new s ≡ state_in old s = gone ∙ ap (λ n. blank_state (record { node = n; serial = s })) number ∙ sym never in
-          subst (λ x. IsAlike (state_in old s) x) (sym same) (refl, λ a. refl)
-          )
-      | inr other ↦ (
-          let kept : state_in new s ≡ state_in failed s = others s (λ e. other (e ∙ serial)) in
-          let born : state_in mid s ≡ state_in old s = bears.others s other in
-          subst (λ x. IsAlike x (state_in new s)) born (subst (IsAlike (state_in mid s)) (sym kept) (alike.1 s))
-          )
-    ])
+    let up : new.up ≡ old.up = node.1 ∙ alike.0.1 ∙ bears.node.1 in (
+      (number, up, count ∙ serial),
+      λ s. elim (cases_eq s (length old.actors)) [
+        | inl last ↦ (
+            let gone = state-past new s (omega (arith, count, serial, last)) in
+            let never = state-past old s (omega (arith, last)) in
+            let same : state_in new s ≡ state_in old s = gone ∙ ap (λ n. blank_state (record { node = n; serial = s })) number ∙ sym never in
+            subst (λ x. IsAlike (state_in old s) x) (sym same) (refl, λ a. refl)
+            )
+        | inr other ↦ (
+            let kept : state_in new s ≡ state_in failed s = others s (λ e. other (e ∙ serial)) in
+            let born : state_in mid s ≡ state_in old s = bears.others s other in
+            subst (λ x. IsAlike x (state_in new s)) born (subst (IsAlike (state_in mid s)) (sym kept) (alike.1 s))
+            )
+      ],
+    )

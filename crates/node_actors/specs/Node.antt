@@ -1,5 +1,5 @@
 -- What contracts see of the actors of one node, and how calls change them.
-use Rattle.std.specs.Prelude.{◌≡◌, ◌≢◌, ◌+◌, ◌<◌, ◌&&◌, nat_lt, ℕ, Bool, true, List, [], Option, get_or, length}
+use Rattle.std.specs.Prelude.{◌≡◌, ◌≢◌, ◌+◌, ◌<◌, ◌&&◌, if◌then◌else◌, count_by, nat_lt, ℕ, Bool, true, List, [], Option, get_or, length}
 use Rattle.crgc_ids.specs.Actor.{Actor}
 use Rattle.ready_actors.specs.Ready.{IsAbove, IsFrom}
 use Rattle.actor_states.specs.State.{Begets, IsAlike, IsChild, State, blank_state, has_news}
@@ -16,6 +16,10 @@ blank_node n = record { number = n; up = true; actors = [] }
 -- the state of the actor with this serial: a blank one, if it was not born
 abbrev pub state_in : NodeState → ℕ → State
 state_in n s = get_or n.actors s (blank_state (record { node = n.number; serial = s }))
+
+-- how many of its actors are busy, while it is up
+abbrev pub busy_in : NodeState → ℕ
+busy_in n = if n.up then count_by (λ s. s.busy) n.actors else 0
 
 -- the actor was born on the node, and the node is up
 pub record IsThere (n : NodeState) (a : Actor) : Type 0 where

@@ -7,7 +7,7 @@ ghost use Rattle.entry_records.specs.Unflushed.{pair_count};
 ghost use Rattle.ready_actors.specs.Ready.{IsAbove, has_actor};
 ghost use Rattle.actor_states.specs.State.{Begets, Drops, Flushes, Gains, HasRoom, IsAlike, IsChild, IsSeed, Sends, Takes, flags_of, has_news, is_this, noting};
 ghost use Rattle.node_actors.specs.Keeping.{IsSettled};
-ghost use Rattle.node_actors.specs.Node.{AreAlike, Bears, ChangesIn, IsNextDue, IsThere, KeepsNode, NobodyIsDue, Spawns, blank_node, next_actor, state_in};
+ghost use Rattle.node_actors.specs.Node.{AreAlike, Bears, ChangesIn, IsNextDue, IsThere, KeepsNode, NobodyIsDue, Spawns, blank_node, busy_in, next_actor, state_in};
 
 use actor_states::ActorState;
 use crgc_ids::{ActorId, NoMemory, NodeId};
@@ -73,7 +73,8 @@ impl NodeActors {
 
     /// How many are busy, while the node is up.
     pub fn busy_count(&self) -> u32
-        ensures { result ≡ (if self.now.up then count_by (λ s. s.busy) self.now.actors else 0) }
+        ensures number { result ≡ busy_in self.now }
+        ensures in_range { result ≤ 262144 }
     {
         self.busy
     }
