@@ -1,5 +1,5 @@
 -- Held references, as a list of targets and their counts.
-use Rattle.std.specs.Prelude.{◌≡◌, ◌≢◌, ℕ, List, unwrap_or}
+use Rattle.std.specs.Prelude.{◌≡◌, ◌≢◌, ◌+◌, ℕ, List, count_by, unwrap_or}
 use Rattle.std.specs.Map.{lookup}
 use Rattle.crgc_ids.specs.Actor.{Actor, same_actor}
 
@@ -11,3 +11,11 @@ count_of counts target = unwrap_or (lookup (same_actor target) counts) 0
 pub record IsCountChange (old new : List (Actor × ℕ)) (target : Actor) (count : ℕ) : Type 0 where
   pub changed : count_of new target ≡ count
   pub others : (a : Actor) → a ≢ target → count_of new a ≡ count_of old a
+
+-- each actor has the count that it had
+abbrev pub CountTheSame : List (Actor × ℕ) → List (Actor × ℕ) → Type 0
+CountTheSame old new = (a : Actor) → count_of new a ≡ count_of old a
+
+-- each actor has one more for each time that it is among these
+abbrev pub IsGain : List (Actor × ℕ) → List (Actor × ℕ) → List Actor → Type 0
+IsGain old new refs = (a : Actor) → count_of new a ≡ count_of old a + count_by (same_actor a) refs

@@ -1,8 +1,9 @@
 //! The references that an actor holds: how many to each target.
 #![tactic(auto)]
 
-ghost use Rattle.std.specs.Prelude.{◌≡◌, ◌+◌, ◌-◌, ◌<◌, ◌^◌, [], OnOk, OnErr};
-ghost use Rattle.refob_counts.specs.Counts.{IsCountChange, count_of};
+ghost use Rattle.std.specs.Prelude.{◌≡◌, ◌+◌, ◌-◌, ◌<◌, ◌≤◌, ◌^◌, [], OnOk, OnErr, count_by};
+ghost use Rattle.crgc_ids.specs.Actor.{Actor, same_actor};
+ghost use Rattle.refob_counts.specs.Counts.{CountTheSame, IsCountChange, IsGain, count_of};
 
 use crgc_ids::{ActorId, NoMemory};
 use std::alloc::Global;
@@ -51,6 +52,34 @@ impl RefCounts {
         match self.counts.insert(target, held + count) {
             Ok(_) => Ok(()),
             Err(_) => Err(NoMemory),
+        }
+    }
+
+    /// One reference to each of these targets is held more, as often as it comes, and no other count changes. `NoMemory` comes
+    /// only where none is held of one of them; the counts are then as before. Logarithmic time in the number of targets for
+    /// each reference.
+    pub fn add_all(&mut self, targets: &[ActorId]) -> Result<(), NoMemory>
+        requires { (a : Actor) → count_of self.old a + count_by (same_actor a) targets.now < 2 ^ 32 }
+        ensures ok { OnOk result (IsGain self.old self.new targets.now) }
+        ensures err { OnErr result (CountTheSame self.old self.new) }
+    {
+        for (done, target) in targets.iter().enumerate() {
+            if let Err(NoMemory) = self.add(*target, 1) {
+                self.take_back(&targets[..done]);
+                return Err(NoMemory);
+            }
+        }
+        Ok(())
+    }
+
+    /// One reference to each of these targets, which are held, is held less, as often as it comes.
+    fn take_back(&mut self, targets: &[ActorId])
+        requires { (a : Actor) → count_by (same_actor a) targets.now ≤ count_of self.old a }
+        ensures { IsGain self.new self.old targets.now }
+    {
+        for target in targets {
+            // one is held, so this is no error
+            let _ = self.release(*target);
         }
     }
 

@@ -17,5 +17,7 @@ fn references_are_counted_by_target(rt: HostRuntime) -> Result<(), Fail> {
     assert_eq!(rt; counts.release(first), Ok(()));
     assert_eq!(rt; counts.release(first), Err(NotHeld));
     assert_eq!(rt; counts.held(first), 0);
+    counts.add_all([second, first, second].as_slice())?;
+    assert_eq!(rt; (counts.held(first), counts.held(second)), (1, 2));
     Ok(())
 }

@@ -1,0 +1,6 @@
+//! The state of one actor.
+#![tactic(auto)]
+
+mod state;
+
+pub use state::ActorState;

@@ -1,0 +1,10 @@
+pub mod ActorCases
+pub mod Bounds
+pub mod Counting
+pub mod HeldSteps
+pub mod StateEvents
+pub mod StateSteps
+pub mod SweepSteps
+pub mod TableLemmas
+pub mod TableSteps
+pub mod TieLemmas

@@ -1,0 +1,21 @@
+use Rattle.std.proofs.Common.{refl, sym, ◌∙◌, subst}
+use Rattle.std.proofs.lemmas.Result.{on_ok_weaker}
+use Rattle.actor_states.specs.State.{Drops, HasRoom}
+use Rattle.node_actors.specs.Node.{NodeState, state_in}
+use Rattle.roster.proofs.TableLemmas.{here-below, lift-changes, node-found}
+use Rattle.roster.proofs.table.Roster.drop_reference.Goals as goal
+
+pub drop_reference-requires-clause-fits : goal.drop_reference-requires-clause-fits
+drop_reference-requires-clause-fits c =
+    let old = c.self.inside in
+    let place = c.get.ensures.number ∙ c.node.ensures in
+    let below = here-below c.args.self.now c.args.actor c.requires.here.born in
+    let found = node-found old.version old.nodes.items c.args.self.now c.get.result c.args.actor.node c.index_mut.result.now c.self.view_is place below c.index_mut.ensures.value in
+    subst (λ (n : NodeState). HasRoom (state_in n c.args.actor.serial) 1) (sym found) c.requires.fits
+
+pub returns-clause-ok : goal.returns-clause-ok
+returns-clause-ok c =
+    let old = c.self.inside in
+    let place = c.get.ensures.number ∙ c.node.ensures in
+    let below = here-below c.args.self.now c.args.actor c.requires.here.born in
+    on_ok_weaker c.drop_reference.result (λ changes. lift-changes old.version old.nodes.items c.args.self.now c.get.result c.args.actor.node c.index_mut.result.now c.drop_reference.new.self c.self.view_is place below c.index_mut.ensures.value c.args.actor (Drops c.args.target) refl changes) c.drop_reference.ensures.ok
