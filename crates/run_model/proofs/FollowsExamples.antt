@@ -158,12 +158,12 @@ crash-added : added (maker_friend_poke [] [] 100) (Rest (actor 2 0)) (after (mak
 crash-added = refl
 
 abbrev flushed : ℕ → List Event
-flushed count = onto (schedule (breeder 40) 40) (map (λ i. Flush (actor 0 i)) (range_with_len 0 count))
+flushed count = onto (schedule (breeder [] 40) 40) (map (λ i. Flush (actor 0 i)) (range_with_len 0 count))
 
-publish-added : added (breeder 40) (Flush (actor 0 31)) (flushed 31) ≡ Some (Publish 0)
+publish-added : added (breeder [] 40) (Flush (actor 0 31)) (flushed 31) ≡ Some (Publish 0)
 publish-added = refl
 
-none-added : added (breeder 40) (Flush (actor 0 30)) (flushed 30) ≡ None
+none-added : added (breeder [] 40) (Flush (actor 0 30)) (flushed 30) ≡ None
 none-added = refl
 
 -- An operation wakes the lowest actor that is planned, and no operation begins with a crash.

@@ -16,7 +16,7 @@ use Rattle.fault_plan.specs.Rows.{link_row}
 use Rattle.run_model.specs.Doing.{cluster_of}
 use Rattle.run_model.specs.Round.{round}
 use Rattle.run_model.specs.Schedule.{IsDone, IsFixed, schedule}
-use Rattle.run_model.proofs.Scripts.{breeder, maker_friend_poke, quitters, small_workload}
+use Rattle.run_model.proofs.Scripts.{breeder, crash, maker_friend_poke, quitters, small_workload}
 
 -- Messages, a crash that comes with the end of a turn, and a message of the crashed node.
 
@@ -133,8 +133,15 @@ breeder_run =
     ∷ flat_map breeder_turn (range_with_len 64 6)
     ++ flushes_of 0 1 ++ flushes_of 65 6 ++ Publish 0 ∷ Hand 0 0 3 ∷ Sweep 0 ∷ []
 
-breeder-fixed : IsFixed (breeder 70) (onto [] breeder_run)
+breeder-fixed : IsFixed (breeder [] 70) (onto [] breeder_run)
 breeder-fixed = (70, refl, refl)
 
 breeder-length : length breeder_run ≡ 362
 breeder-length = refl
+
+-- Where the 64th turn brings its node's crash, that comes before the round, in which nobody is left to do anything.
+
+breeder-crashed : IsFixed (breeder (crash 0 64 ∷ []) 70) (onto [] (
+    Seed 0 ∷ Wake (actor 0 0) ∷ Spawn (actor 0 0) ∷ Rest (actor 0 0) ∷ flat_map breeder_turn (range_with_len 1 63) ++ Crash 0 ∷ []
+    ))
+breeder-crashed = (64, refl, refl)

@@ -71,13 +71,13 @@ small_workload = record {
 }
 
 -- one seed that makes a child with each of its turns, in the place of the one before
-abbrev pub breeder : ℕ → Scripted
-breeder wakes = record {
+abbrev pub breeder : List CrashRow → ℕ → Scripted
+breeder crashes wakes = record {
   nodes = 1;
   code = behaviour (codes "breeder") (Spawn (codes "x") 1 ∷ []) [] ∷ behaviour (codes "idle") [] [] ∷ [];
   seeds = seed 0 0 wakes ∷ [];
   ties = [];
-  plan = record { losses = []; repeats = []; crashes = [] };
+  plan = record { losses = []; repeats = []; crashes = crashes };
   turns = 1000;
 }
 
