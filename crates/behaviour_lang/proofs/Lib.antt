@@ -1,4 +1,5 @@
 pub mod ActLaws
+pub mod BirthLaws
 pub mod EndLaws
 pub mod HeldLaws
 pub mod MadeLaws

@@ -3,6 +3,7 @@ use Rattle.std.specs.Prelude.{ℕ, ◌≡◌, Bool, true, false, List, [], drop,
 use Rattle.behaviour_lang.specs.Bound.{Names, bound, first_message}
 use Rattle.behaviour_lang.specs.Held.{names_of}
 use Rattle.behaviour_lang.specs.Steps.{Left}
+use Rattle.behaviour_lang.specs.declared.act.Act.TheVariants as acts
 use Rattle.behaviour_lang.specs.declared.act.List.{List as Which}
 use Rattle.behaviour_lang.specs.declared.act.List.TheVariants.{Wake, Message}
 use Rattle.behaviour_lang.specs.declared.act.Step.{Step}
@@ -74,3 +75,8 @@ left_of behaviours t = record {
 abbrev pub is_end : Step → Bool
 is_end steps.End = true
 is_end s = false
+
+-- whether a step gives birth to a child
+abbrev pub is_spawn : Step → Bool
+is_spawn (steps.Act (acts.Spawn b)) = true
+is_spawn s = false

@@ -1,9 +1,12 @@
-//! How names are spelled, and behaviours put together.
+//! How names are spelled, behaviours put together, and a turn run.
+ghost use Rattle.std.specs.Prelude.{◌≡◌, length, IfOk};
+
 use crate::{
     Act, Behaviour, BehaviourList, Code, Instr, InstrList, List, Locals, Name, NameList, Step,
     Turn, is_behaviour_name, is_local_name, message_number,
 };
-use crgc_ids::{ActorId, NodeId, Octets};
+use crgc_ids::{ActorId, NoMemory, NodeId, Octets, RefList};
+use std::alloc::Global;
 use std::test::Fail;
 
 #[test]
@@ -81,4 +84,46 @@ fn a_local_name_is_bound(rt: HostRuntime) -> Result<(), Fail> {
     assert_eq!(rt; (first.0.as_slice(), first.1), (b"self".as_slice(), own));
     assert!(rt; same.get(1).is_none());
     Ok(())
+}
+
+/// Code whose one behaviour gives birth to a child when it is woken.
+fn parents(alloc: Global) -> Result<Code, NoMemory>
+    ensures { IfOk result (λ c. length c ≡ 1) }
+{
+    let mut wake = InstrList::new(alloc);
+    wake.push(Instr::Spawn {
+        name: Octets::from_vec(Vec::from_slice(alloc, b"child").map_err(|_| NoMemory)?),
+        behaviour: 0,
+    })?;
+    let mut behaviours = BehaviourList::new(alloc);
+    behaviours.push(Behaviour {
+        name: Octets::new(alloc),
+        wake,
+        message: InstrList::new(alloc),
+    })?;
+    Ok(Code { behaviours })
+}
+
+#[test]
+fn a_turn_gives_birth_and_ends(rt: HostRuntime) -> Result<(), Fail> {
+    let child = actor(0, 1).ok_or("a child")?;
+    let code = parents(rt.alloc())?;
+    let locals = Locals::new(rt.alloc());
+    let refs = RefList::new(rt.alloc());
+    let mut turn = Turn::begin(rt.alloc(), &code, 0, List::Wake, locals, refs, false)?;
+    match turn.next(&code)? {
+        Step::Act(Act::Spawn { behaviour }) => {
+            assert_eq!(rt; behaviour, 0);
+            turn.born(child)?;
+        }
+        _ => return Err("no birth".into()),
+    }
+    match turn.next(&code)? {
+        Step::End => {
+            let kept = turn.finish();
+            assert_eq!(rt; kept.get(0).ok_or("the child")?.1, child);
+            Ok(())
+        }
+        _ => Err("no end".into()),
+    }
 }

@@ -1,8 +1,8 @@
 //! Turns of behaviours.
-ghost use Rattle.std.specs.Prelude.{◌≡◌, ◌<◌, ◌≤◌, true, false, length, Some, None, OnOk, OnErr, IfOk, IsSome};
+ghost use Rattle.std.specs.Prelude.{◌≡◌, ◌<◌, ◌≤◌, true, false, length, Some, None, OnOk, OnErr, IfOk, IsSome, is_some};
 ghost use Rattle.behaviour_lang.specs.Bound.{local_names, names_at_start};
 ghost use Rattle.behaviour_lang.specs.Steps.{after_step, next_step, with_child};
-ghost use Rattle.behaviour_lang.specs.TurnState.{at_start, instrs_of, is_end, left_of};
+ghost use Rattle.behaviour_lang.specs.TurnState.{at_start, instrs_of, is_end, is_spawn, left_of};
 
 use crate::act::{List, Step};
 use crate::bound::BoundNames;
@@ -65,7 +65,7 @@ impl Turn {
         })
     }
 
-    /// The next step; `code` is that with which the turn began. Logarithmic time in the number of names for each name of the
+    /// The next step; `code` is that with which the turn began. After a spawn a birth is owed. Logarithmic time in the number of names for each name of the
     /// instructions that are done.
     pub fn next(&mut self, code: &Code) -> Result<Step, NoMemory>
         requires running { self.old.ended ≡ false }
@@ -76,6 +76,7 @@ impl Turn {
         ensures behaviour { self.new.behaviour ≡ self.old.behaviour }
         ensures list { self.new.list ≡ self.old.list }
         ensures ended { IfOk result (λ s. self.new.ended ≡ is_end s) }
+        ensures owed { IfOk result (λ s. is_some self.new.owed ≡ is_spawn s) }
         ensures err { OnErr result (self.new ≡ self.old) }
     {
         let instrs = instrs_of(code, self.behaviour, self.list);
