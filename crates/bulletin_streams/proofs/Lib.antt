@@ -1,2 +1,3 @@
+pub mod BoundLemmas
 pub mod QueueLemmas
 pub mod StandingLemmas
