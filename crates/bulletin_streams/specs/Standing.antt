@@ -1,14 +1,17 @@
 -- What queues and streams stand for: what is true of them in a history.
-use Rattle.std.specs.Prelude.{◌≡◌, ◌+◌, ◌<◌, ◌≤◌, ◌==◌, if◌then◌else◌, ℕ, Bool, true, false, List, [], ◌∷◌, Some, length, slice_get}
+use Rattle.std.specs.Prelude.{◌≡◌, ◌≢◌, ◌+◌, ◌<◌, ◌≤◌, ◌^◌, ◌==◌, if◌then◌else◌, ℕ, Bool, true, false, List, [], ◌∷◌, Some, length, slice_get}
 use Rattle.history_model.specs.declared.events.Event.{Event}
 use Rattle.history_model.specs.declared.events.Event.TheVariants.{Flush, Publish, Remove, Window}
 use Rattle.history_model.specs.declared.records.Bulletin.{Bulletin}
+use Rattle.history_model.specs.declared.records.Bulletin.TheVariants as bulletins
 use Rattle.history_model.specs.declared.records.Entry.{Entry}
 use Rattle.history_model.specs.declared.records.Window as windows
 use Rattle.history_model.specs.Cluster.{Cluster}
+use Rattle.history_model.specs.Graph.{rising_actors}
+use Rattle.history_model.specs.Ledgers.{Ledger, ledger_names}
 use Rattle.history_model.specs.Legal.{IsLegal}
 use Rattle.history_model.specs.Streams.{Notice, entry, queue, stream, window}
-use Rattle.history_model.specs.Tells.{TellEntries, Tells, TellsEntry, TellsWindow}
+use Rattle.history_model.specs.Tells.{TellEntries, Tells, TellsEntry, TellsWindow, bulletin_ledger}
 use Rattle.journal_model.specs.Limits.{passes_delta}
 use Rattle.journal_model.specs.Lines.{AreWithinRanges}
 use Rattle.bulletin_streams.specs.StreamState.{StreamState, stream_at}
@@ -72,3 +75,22 @@ pub record IsWithinLimits (cl : Cluster) (h : List Event) : Type 0 where
   pub ranges : AreWithinRanges h
   pub names : KeepsDeltaLimit cl h
   pub events : length h ≤ 1000000
+
+-- no section has more rows than four bytes count
+pub record HasFewRows (l : Ledger) : Type 0 where
+  pub states : length l.states < 2 ^ 32
+  pub sent : length l.sent < 2 ^ 32
+  pub created : length l.created < 2 ^ 32
+  pub released : length l.released < 2 ^ 32
+
+-- a window and a Final are of a link from another node
+abbrev pub IsOfTwoNodes : Bulletin → Type 0
+IsOfTwoNodes (bulletins.Delta d) = Unit {0}
+IsOfTwoNodes (bulletins.Window w) = w.from ≢ w.at
+IsOfTwoNodes (bulletins.Final w) = w.from ≢ w.at
+
+-- the bulletin has a spelling: its link leads from another node, its rows are few enough, and it names at most 200,000 actors
+pub record FitsWire (b : Bulletin) : Type 0 where
+  pub ends : IsOfTwoNodes b
+  pub rows : HasFewRows (bulletin_ledger b)
+  pub names : length (rising_actors (ledger_names (bulletin_ledger b))) ≤ 200000

@@ -1,13 +1,14 @@
 //! The laws of queues and streams. Each function does nothing, and its contract is the law.
 ghost use Rattle.std.specs.Prelude.{◌≡◌, ◌<◌, ◌≤◌, true, ℕ, List, length};
 ghost use Rattle.history_model.specs.declared.events.Event.{Event};
+ghost use Rattle.history_model.specs.declared.records.Bulletin.{Bulletin};
 ghost use Rattle.history_model.specs.declared.records.Window.{Window};
 ghost use Rattle.history_model.specs.Cluster.{Cluster};
 ghost use Rattle.history_model.specs.Ledgers.{CountFromOne, IsInOrder, entries_ledger, entry_ledger, window_ledger};
-ghost use Rattle.history_model.specs.Tells.{CountsMessages, admitted_since};
+ghost use Rattle.history_model.specs.Tells.{CountsMessages, IsOrdered, admitted_since};
 ghost use Rattle.journal_model.specs.Lines.{AreWithinRanges};
 ghost use Rattle.delta_graph.specs.Sums.{CountsFit};
-ghost use Rattle.bulletin_streams.specs.Standing.{AreStreamsOf, StandAfter, TellsLink, is_silent};
+ghost use Rattle.bulletin_streams.specs.Standing.{AreStreamsOf, FitsWire, IsWithinLimits, StandAfter, TellsLink, TellsNumber, is_silent};
 ghost use Rattle.bulletin_streams.specs.StreamState.{AreAlike, StreamState, stream_at};
 
 use history_model::{Entry, Window};
@@ -51,4 +52,9 @@ pub fn streams_are_no_larger_than_their_history()
         → AreWithinRanges h → length h ≤ 1000000 → CountsFit (entries_ledger (stream_at streams n).entries) }
     ensures stream { (cl : Cluster) (h : List Event) (streams : List StreamState) (n : ℕ) → AreStreamsOf cl h streams → n < 16
         → length (stream_at streams n).bulletins ≤ length h }
+{}
+
+/// In a legal history within its limits each bulletin of a stream has a spelling.
+pub fn bulletins_fit_the_wire()
+    ensures { (cl : Cluster) (h : List Event) (o k : ℕ) (b : Bulletin) → IsWithinLimits cl h → IsOrdered b → TellsNumber cl h o k b → FitsWire b }
 {}
