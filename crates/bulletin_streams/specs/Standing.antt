@@ -44,6 +44,10 @@ AreStreamsOf cl h streams = (n : ℕ) → n < 16 → IsStreamOf cl n h (stream_a
 abbrev pub StandAfter : Cluster → Event → List Event → List StreamState → List StreamState → Type 0
 StandAfter cl e p old new = AreStreamsOf cl p old → AreStreamsOf cl (e ∷ p) new
 
+-- whether the next publish of node n passes the limit of names, in each history for which the streams stand
+abbrev pub SaysLimit : List StreamState → ℕ → Bool → Type 0
+SaysLimit streams n answer = (cl : Cluster) (h : List Event) → AreStreamsOf cl h streams → passes_delta cl (Publish n) h ≡ answer
+
 -- the entry tells what a flush of its actor moves to the queue
 abbrev pub TellsFlush : Cluster → List Event → Entry → Type 0
 TellsFlush cl p e = TellsEntry e.actor e (entry cl e.actor p)

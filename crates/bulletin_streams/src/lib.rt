@@ -6,3 +6,6 @@ mod node_stream;
 mod streams;
 
 pub use streams::BulletinStreams;
+
+#[cfg(test)]
+mod tests;

@@ -9,10 +9,9 @@ ghost use Rattle.history_model.specs.Cluster.{Cluster};
 ghost use Rattle.history_model.specs.Ledgers.{entries_ledger};
 ghost use Rattle.history_model.specs.Streams.{is_blank, queue, stream};
 ghost use Rattle.history_model.specs.Tells.{IsOrdered};
-ghost use Rattle.journal_model.specs.Limits.{passes_delta};
 ghost use Rattle.delta_graph.specs.declared.fault.DeltaFault.TheVariants.{TableFull};
 ghost use Rattle.delta_graph.specs.Sums.{CountsFit, IsFaultOf, named_count};
-ghost use Rattle.bulletin_streams.specs.Standing.{AreStreamsOf, StandAfter, TellsFlush, TellsLink, TellsNumber, queued};
+ghost use Rattle.bulletin_streams.specs.Standing.{AreStreamsOf, SaysLimit, StandAfter, TellsFlush, TellsLink, TellsNumber, queued};
 ghost use Rattle.bulletin_streams.specs.StreamState.{Appends, AreAlike, ChangesAt, Publishes, Queues, StreamState, TakesBack, stream_at};
 
 use crate::node_stream::NodeStream;
@@ -100,8 +99,8 @@ impl BulletinStreams {
         ensures fault { IfErr result (IsFaultOf (stream_at self.old node).entries) }
         ensures err { OnErr result (AreAlike self.old self.new) }
         ensures stands { OnOk result ((cl : Cluster) (p : List Event) → StandAfter cl (Publish node) p self.old self.new) }
-        ensures within { OnOk result ((cl : Cluster) (p : List Event) → AreStreamsOf cl p self.old → passes_delta cl (Publish node) p ≡ false) }
-        ensures over { IfErr result (λ f. f ≡ TableFull → (cl : Cluster) (p : List Event) → AreStreamsOf cl p self.old → passes_delta cl (Publish node) p ≡ true) }
+        ensures within { OnOk result (SaysLimit self.old node false) }
+        ensures over { IfErr result (λ f. f ≡ TableFull → SaysLimit self.old node true) }
     {
         self.nodes[node.get() as usize].publish(node)
     }
@@ -111,7 +110,7 @@ impl BulletinStreams {
     pub fn names_too_many(&self, node: NodeId) -> Result<bool, NoMemory>
         requires fits { CountsFit (entries_ledger (stream_at self.now node).entries) }
         ensures value { IfOk result (λ b. b ≡ nat_lt 200000 (named_count (stream_at self.now node).entries)) }
-        ensures told { IfOk result (λ b. (cl : Cluster) (h : List Event) → AreStreamsOf cl h self.now → b ≡ passes_delta cl (Publish node) h) }
+        ensures told { IfOk result (SaysLimit self.now node) }
     {
         self.nodes[node.get() as usize].names_too_many(node)
     }
@@ -120,7 +119,8 @@ impl BulletinStreams {
     pub fn append_window(&mut self, window: Window)
         requires room { 0 < (stream_at self.old window.at).bulletin_room }
         ensures change { ChangesAt self.old self.new window.at (λ s t. Appends s t (bulletins.Window window)) }
-        ensures stands { (cl : Cluster) (p : List Event) → TellsLink p window → StandAfter cl (WindowEvent window.at window.from) p self.old self.new }
+        ensures stands { (cl : Cluster) (p : List Event) → TellsLink p window
+            → StandAfter cl (WindowEvent window.at window.from) p self.old self.new }
     {
         self.nodes[window.at.get() as usize].append_window(window);
     }

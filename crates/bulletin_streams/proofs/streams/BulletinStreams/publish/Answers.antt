@@ -5,9 +5,8 @@ use Rattle.std.specs.declared.result.Result.TheVariants.{Err, Ok}
 use Rattle.history_model.specs.declared.events.Event.{Event}
 use Rattle.history_model.specs.declared.events.Event.TheVariants.{Publish}
 use Rattle.history_model.specs.Cluster.{Cluster}
-use Rattle.bulletin_streams.specs.Standing.{AreStreamsOf, StandAfter}
+use Rattle.bulletin_streams.specs.Standing.{SaysLimit, StandAfter}
 use Rattle.bulletin_streams.specs.StreamState.{Publishes}
-use Rattle.journal_model.specs.Limits.{passes_delta}
 use Rattle.delta_graph.specs.Sums.{IsFaultOf, named_count}
 use Rattle.delta_graph.specs.declared.fault.DeltaFault.TheVariants.{TableFull}
 use Rattle.bulletin_streams.proofs.QueueLemmas.{limit-at}
@@ -32,7 +31,7 @@ returns-clause-within c =
     let es = c.index_mut.result.now.entries in
     let read = read-at c.args.self.now c.self.inside.nodes.items c.get.result n c.index_mut.result.now (search rules) c.self.invariant (search rules) (search rules) c.index_mut.ensures.value in
     let limit = limit-at c.args.self.now n c.index_mut.result.now read c.publish.ensures.stand (search rules) in
-    elim c.publish.result as (λ r. OnOk r (named_count es ≤ 200000) → OnOk r ((cl : Cluster) (p : List Event) → AreStreamsOf cl p c.args.self.now → passes_delta cl (Publish n) p ≡ false)) [
+    elim c.publish.result as (λ r. OnOk r (named_count es ≤ 200000) → OnOk r (SaysLimit c.args.self.now n false)) [
       | Ok v ↦ λ few cl p stands. sym (limit cl p stands) ∙ le-ltb 200000 (named_count es) few
       | Err f ↦ λ _. tt
     ] c.publish.ensures.named
@@ -43,7 +42,7 @@ returns-clause-over c =
     let es = c.index_mut.result.now.entries in
     let read = read-at c.args.self.now c.self.inside.nodes.items c.get.result n c.index_mut.result.now (search rules) c.self.invariant (search rules) (search rules) c.index_mut.ensures.value in
     let limit = limit-at c.args.self.now n c.index_mut.result.now read c.publish.ensures.stand (search rules) in
-    elim c.publish.result as (λ r. IfErr r (λ f. IsFaultOf es f) → IfErr r (λ f. f ≡ TableFull → (cl : Cluster) (p : List Event) → AreStreamsOf cl p c.args.self.now → passes_delta cl (Publish n) p ≡ true)) [
+    elim c.publish.result as (λ r. IfErr r (λ f. IsFaultOf es f) → IfErr r (λ f. f ≡ TableFull → SaysLimit c.args.self.now n true)) [
       | Ok v ↦ λ _. tt
       | Err f ↦ λ fault full cl p stands. sym (limit cl p stands) ∙ lt-ltb 200000 (named_count es) (subst (IsFaultOf es) full fault)
     ] c.publish.ensures.fault
