@@ -144,7 +144,8 @@ impl BulletinStreams {
 
     /// Whether an entry waits. Constant time.
     pub fn has_entries(&self, node: NodeId) -> bool
-        ensures { (cl : Cluster) (h : List Event) → AreStreamsOf cl h self.now → result ≡ not (is_blank (queue cl node h)) }
+        ensures value { result ≡ nat_lt 0 (length (stream_at self.now node).entries) }
+        ensures told { (cl : Cluster) (h : List Event) → AreStreamsOf cl h self.now → result ≡ not (is_blank (queue cl node h)) }
     {
         0 < self.queue_len(node)
     }
