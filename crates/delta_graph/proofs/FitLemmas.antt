@@ -29,7 +29,7 @@ fit-together l fits = record {
 }
 
 -- facts are counted at most once each
-tally-length : {X : Type 0} (test : X → Bool) (xs : List X) → tally test xs ≤ length xs
+pub tally-length : {X : Type 0} (test : X → Bool) (xs : List X) → tally test xs ≤ length xs
 tally-length test [] = omega arith
 tally-length test (x ∷ xs) =
     let later = tally-length test xs in

@@ -1,0 +1,4 @@
+pub mod BoundLemmas
+pub mod QueueLemmas
+pub mod RowLemmas
+pub mod StandingLemmas

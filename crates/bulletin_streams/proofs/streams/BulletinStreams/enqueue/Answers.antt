@@ -1,0 +1,8 @@
+use Rattle.std.proofs.Common.{slice_set, rules}
+use Rattle.bulletin_streams.proofs.StandingLemmas.{changed-at, flush-stands}
+use Rattle.bulletin_streams.proofs.streams.BulletinStreams.enqueue.Goals as goal
+
+pub returns-clause-stands : goal.returns-clause-stands
+returns-clause-stands c =
+    let change = changed-at _ c.args.self.now c.self.inside.nodes.items c.get.result _ c.index_mut.result.now c.enqueue.new.self (search rules) c.self.invariant (search rules) (search rules) c.index_mut.ensures.value c.enqueue.ensures in
+    λ cl p tells. flush-stands cl p c.args.entry c.args.self.now (slice_set c.self.inside.nodes.items c.get.result c.enqueue.new.self) change tells
