@@ -1,11 +1,13 @@
 //! What is true of one actor now.
-ghost use Rattle.std.specs.Prelude.{◌≡◌, ◌+◌, ◌<◌, ◌≤◌, ◌^◌, [], ◌∷◌, false, true, length, Some, None, Option, IfOk, IsTrue, OnErr, OnOk, count_by};
+ghost use Rattle.std.specs.Prelude.{◌≡◌, ◌+◌, ◌<◌, ◌≤◌, ◌^◌, [], ◌∷◌, false, true, length, Some, None, Option, IfOk, IsTrue};
+ghost use Rattle.std.specs.Prelude.{OnErr, OnOk, count_by};
 ghost use Rattle.crgc_ids.specs.Actor.{Actor, same_actor};
 ghost use Rattle.history_model.specs.Facts.{created};
 ghost use Rattle.refob_counts.specs.Counts.{IsGain, count_of};
 ghost use Rattle.entry_records.specs.Log.{IsEntryOf};
 ghost use Rattle.entry_records.specs.Unflushed.{pair_count};
-ghost use Rattle.actor_states.specs.State.{Begets, DifferInHeld, Drops, Flushes, Gains, HasRoom, IsAlike, IsChild, IsSeed, Sends, Takes, child_refs, flags_of, has_news, is_this, noting};
+ghost use Rattle.actor_states.specs.State.{Begets, DifferInHeld, Drops, Flushes, Gains, HasRoom, IsAlike, IsChild, IsSeed, Sends};
+ghost use Rattle.actor_states.specs.State.{Takes, child_refs, flags_of, has_news, is_this, noting};
 
 use crgc_ids::{ActorId, NoMemory};
 use entry_records::ActorLog;

@@ -8,7 +8,7 @@ use Rattle.crgc_ids.specs.Actor.{Actor, same_actor}
 use Rattle.crgc_ids.proofs.ActorLaws.{same_parts}
 use Rattle.ready_actors.specs.Ready.{has_actor}
 use Rattle.actor_states.specs.State.{State, blank_state, has_news}
-use Rattle.node_actors.specs.Keeping.{IsKept, IsSettled}
+use Rattle.node_actors.specs.Keeping.{IsKept, IsSettled, is_due_among}
 use Rattle.node_actors.specs.Node.{ChangesIn, NodeState, state_in}
 
 -- what holds at a success and at a failure holds
@@ -19,10 +19,6 @@ either_way X P Q (Err e) p q f g = g q
 -- what an actor counts
 abbrev pub one : Bool → ℕ
 one v = cond v 1 0
-
--- the flush of an actor of the node is due
-abbrev pub is_due_among : ℕ → List State → Actor → Bool
-is_due_among number actors a = (a.node == number) && (nat_lt a.serial (length actors) && has_news (get_or actors a.serial (blank_state a)))
 
 -- at the place that changed the new state says whether its actor's flush is due
 due-here : (number : ℕ) (actors : List State) (i : ℕ) (t : State) (a : Actor) → i < length actors → a.node ≡ number → a.serial ≡ i → is_due_among number (set actors i t) a ≡ has_news t

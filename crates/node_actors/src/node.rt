@@ -1,13 +1,16 @@
 //! The actors of one node.
-ghost use Rattle.std.specs.Prelude.{ℕ, ◌≡◌, ◌≢◌, ◌+◌, ◌-◌, ◌<◌, ◌≤◌, ◌&&◌, ◌∷◌, ◌==◌, not, if◌then◌else◌, [], false, true, length, IfNone, IfOk, IfSome, IsTrue, OnErr, OnOk, count_by};
+ghost use Rattle.std.specs.Prelude.{ℕ, ◌≡◌, ◌≢◌, ◌+◌, ◌-◌, ◌<◌, ◌≤◌, ◌&&◌, ◌∷◌, ◌==◌, not, if◌then◌else◌, [], false, true};
+ghost use Rattle.std.specs.Prelude.{length, IfNone, IfOk, IfSome, IsTrue, OnErr, OnOk, count_by};
 ghost use Rattle.history_model.specs.Facts.{created};
 ghost use Rattle.refob_counts.specs.Counts.{count_of};
 ghost use Rattle.entry_records.specs.Log.{IsEntryOf};
 ghost use Rattle.entry_records.specs.Unflushed.{pair_count};
 ghost use Rattle.ready_actors.specs.Ready.{IsAbove, has_actor};
-ghost use Rattle.actor_states.specs.State.{Begets, Drops, Flushes, Gains, HasRoom, IsAlike, IsChild, IsSeed, Sends, Takes, flags_of, has_news, is_this, noting};
+ghost use Rattle.actor_states.specs.State.{Begets, Drops, Flushes, Gains, HasRoom, IsAlike, IsChild, IsSeed, Sends, Takes};
+ghost use Rattle.actor_states.specs.State.{flags_of, has_news, is_this, noting};
 ghost use Rattle.node_actors.specs.Keeping.{IsSettled};
-ghost use Rattle.node_actors.specs.Node.{AreAlike, Bears, ChangesIn, IsNextDue, IsThere, KeepsNode, NobodyIsDue, Spawns, blank_node, busy_in, next_actor, state_in};
+ghost use Rattle.node_actors.specs.Node.{AreAlike, Bears, ChangesIn, IsNextDue, IsThere, KeepsNode, NobodyIsDue, Spawns};
+ghost use Rattle.node_actors.specs.Node.{blank_node, busy_in, next_actor, state_in};
 
 use actor_states::ActorState;
 use crgc_ids::{ActorId, NoMemory, NodeId};

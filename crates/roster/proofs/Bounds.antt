@@ -1,5 +1,5 @@
 -- How high the counts of an actor's state can be, by the length of the history.
-use Rattle.std.proofs.Common.{◌≡◌, ◌+◌, ◌-◌, ◌*◌, ◌<◌, ◌≤◌, ◌^◌, ◌==◌, ◌&&◌, ℕ, zero, suc, Bool, true, false, cond, List, [], ◌∷◌, ◌++◌, length, length-append, map, take, refl, sym, ◌∙◌, ap, subst, inl, inr, arith}
+use Rattle.std.proofs.Common.{◌+◌, ◌*◌, ◌<◌, ◌≤◌, ◌^◌, ◌==◌, ℕ, zero, suc, Bool, true, false, cond, List, [], ◌∷◌, ◌++◌, length, length-append, take, refl, sym, ◌∙◌, ap, inl, inr, arith}
 use Rattle.std.proofs.lemmas.List.{length-map}
 use Rattle.crgc_ids.specs.Actor.{Actor}
 use Rattle.crgc_ids.specs.Members.{IsAmong}
@@ -7,20 +7,17 @@ use Rattle.crgc_ids.proofs.MembersLaws.{IsAmong-append_cases}
 use Rattle.history_model.specs.declared.events.Event.{Event}
 use Rattle.history_model.specs.declared.events.Event.TheVariants.{Seed, Tie, Take, Spawn, Send, Drop}
 use Rattle.history_model.specs.Cluster.{Cluster, newborn, same_actor}
-use Rattle.history_model.specs.Facts.{Fact, Note, created, is_created, is_received, is_released, is_sent_to, message_facts, note_by, notes}
-use Rattle.history_model.specs.Held.{carried, gave, gifts, given_at_once, got, held, is_note_of}
-use Rattle.history_model.specs.Legal.{IsLegal}
-use Rattle.history_model.specs.Messages.{Message, is_take_by, mail, taken, takes}
+use Rattle.history_model.specs.Facts.{Note, created, is_created, is_received, is_released, is_sent_to, message_facts, note_by, notes}
+use Rattle.history_model.specs.Held.{carried, gifts, given_at_once, held, is_note_of}
+use Rattle.history_model.specs.Messages.{Message, is_take_by, mail, takes}
 use Rattle.history_model.specs.Streams.{facts_by, is_flush_of, log}
 use Rattle.history_model.specs.Tally.{tally}
 use Rattle.history_model.proofs.AccountsBirths.{mail-among}
 use Rattle.history_model.proofs.Basics.{same_actor-refl}
 use Rattle.history_model.proofs.Sums.{all_sent}
-use Rattle.refob_counts.specs.Counts.{count_of}
-use Rattle.entry_records.specs.Log.{Log}
-use Rattle.entry_records.specs.Unflushed.{actor_count, pair_count}
+use Rattle.entry_records.specs.Unflushed.{actor_count}
 use Rattle.entry_records.proofs.CountLemmas.{counted}
-use Rattle.actor_states.specs.State.{HasRoom, State}
+use Rattle.actor_states.specs.State.{HasRoom}
 use Rattle.roster.specs.Standing.{IsRosterOf, SendsAreShort}
 use Rattle.roster.specs.Table.{Table, state_at}
 

@@ -1,5 +1,5 @@
 -- What the counts of the table of actors are in a history, and whose flush is due.
-use Rattle.std.proofs.Common.{◌≡◌, ◌+◌, ◌<◌, ◌&&◌, ℕ, zero, suc, Bool, true, false, cond, List, [], ◌∷◌, count_by, get_or, length, map, nat_lt, sum_by, refl, sym, ◌∙◌, ap, ap₂, subst, arith}
+use Rattle.std.proofs.Common.{◌≡◌, ◌+◌, ◌<◌, ◌&&◌, ℕ, zero, suc, Bool, cond, List, [], ◌∷◌, count_by, get_or, length, map, nat_lt, sum_by, refl, sym, ◌∙◌, ap, ap₂, arith}
 use Rattle.std.proofs.lemmas.List.{get_or_default}
 use Rattle.std.proofs.lemmas.List.Sums.{sum_by-cons}
 use Rattle.std.specs.List.{range_with_len}
@@ -14,9 +14,9 @@ use Rattle.history_model.specs.Tally.{tally}
 use Rattle.entry_records.specs.Log.{may_flush}
 use Rattle.entry_records.proofs.LogLemmas.{log-may_flush}
 use Rattle.actor_states.specs.State.{State, blank_state, flags_of, has_news}
-use Rattle.node_actors.specs.Node.{NodeState, blank_node, busy_in, state_in}
-use Rattle.roster.specs.Standing.{IsRosterOf, IsStateOf, stopped_at}
-use Rattle.roster.specs.Table.{Table, births_in, busy_total, may_be_flushed, node_in, state_at, stopped_in, up_in}
+use Rattle.node_actors.specs.Node.{blank_node, busy_in}
+use Rattle.roster.specs.Standing.{IsRosterOf, stopped_at}
+use Rattle.roster.specs.Table.{Table, busy_total, may_be_flushed, node_in, state_at, stopped_in}
 use Rattle.roster.proofs.HeldSteps.{weigh}
 use Rattle.roster.proofs.StateEvents.{tally-count}
 

@@ -1,11 +1,11 @@
 -- How the references that an actor holds change with one event of a legal history.
-use Rattle.std.proofs.Common.{◌≡◌, ◌+◌, ◌≤◌, ◌&&◌, ℕ, zero, suc, Bool, true, false, cond, List, [], ◌∷◌, ◌++◌, drop, take, filter, refl, sym, ◌∙◌, ap, subst, arith, append-nil, add-one}
+use Rattle.std.proofs.Common.{◌≡◌, ◌+◌, ℕ, zero, suc, Bool, false, cond, List, [], ◌∷◌, ◌++◌, drop, take, filter, ◌∙◌, ap, arith, append-nil, add-one}
 use Rattle.std.proofs.lemmas.List.{take-append-le}
 use Rattle.crgc_ids.specs.Actor.{Actor}
 use Rattle.history_model.specs.declared.events.Event.{Event}
 use Rattle.history_model.specs.declared.events.Event.TheVariants.{Take}
 use Rattle.history_model.specs.Cluster.{Cluster, same_actor}
-use Rattle.history_model.specs.Held.{carried, gave, gifts, given_at_once, got, held, is_drop_of, is_note_of}
+use Rattle.history_model.specs.Held.{carried, given_at_once, held, is_drop_of, is_note_of}
 use Rattle.history_model.specs.Legal.{IsLegal}
 use Rattle.history_model.specs.Messages.{Message, admitted_by, is_take_by, is_to, mail, taken, takes, waiting}
 use Rattle.history_model.specs.Tally.{tally}

@@ -1,12 +1,12 @@
 -- What the state of an actor stands for after an event of it.
-use Rattle.std.proofs.Common.{◌≡◌, ◌≢◌, ◌+◌, ◌<◌, ◌==◌, ◌&&◌, ◌||◌, ℕ, Bool, true, false, cond, List, [], ◌∷◌, ◌++◌, Option, None, Some, count_by, map, refl, sym, ◌∙◌, ap, subst, arith}
-use Rattle.std.proofs.lemmas.Bool.{and_right, cond-false, cond-true, cond_both, false_from_ne_true, false≢true}
+use Rattle.std.proofs.Common.{◌≡◌, ◌≢◌, ◌+◌, ◌==◌, ◌&&◌, ◌||◌, ℕ, Bool, true, false, cond, List, [], ◌∷◌, ◌++◌, None, Some, count_by, map, refl, sym, ◌∙◌, ap, subst, arith}
+use Rattle.std.proofs.lemmas.Bool.{and_right, cond-true, cond_both, false_from_ne_true}
 use Rattle.std.proofs.lemmas.List.Sums.{sum_by-cons}
 use Rattle.crgc_ids.specs.Actor.{Actor}
 use Rattle.history_model.specs.declared.events.Event.{Event}
 use Rattle.history_model.specs.declared.events.Event.TheVariants.{Seed, Tie, Wake, Take, Spawn, Send, Drop, Retire, Rest, Flush}
-use Rattle.history_model.specs.Cluster.{Cluster, is_born, newborn, same_actor}
-use Rattle.history_model.specs.Facts.{Fact, Flags, Note, created, message_facts, note_by, notes, received, released}
+use Rattle.history_model.specs.Cluster.{Cluster, newborn, same_actor}
+use Rattle.history_model.specs.Facts.{Fact, Note, created, message_facts, note_by, received, released}
 use Rattle.history_model.specs.Held.{given_at_once, held, is_drop_of, is_note_of}
 use Rattle.history_model.specs.Legal.{IsLegal, is_parent}
 use Rattle.history_model.specs.Messages.{Message, is_take_by, waiting}
@@ -14,12 +14,11 @@ use Rattle.history_model.specs.State.{is_busy, is_root}
 use Rattle.history_model.specs.Streams.{facts_by, flags_at, flushed_flags, log}
 use Rattle.history_model.specs.Tally.{tally}
 use Rattle.history_model.proofs.Basics.{same_actor-equal, same_actor-refl, same_actor-sym}
-use Rattle.refob_counts.specs.Counts.{count_of}
-use Rattle.entry_records.specs.Log.{IsLogAt, IsLogOf, Log, flushed_log, log_with, newborn_log, birth_facts}
-use Rattle.actor_states.specs.State.{Begets, Drops, Flushes, Gains, IsChild, IsNewborn, IsSeed, Sends, State, Takes, blank_state, flags_of, noting, parent_facts}
+use Rattle.entry_records.specs.Log.{IsLogAt, IsLogOf, Log, flushed_log, birth_facts}
+use Rattle.actor_states.specs.State.{Begets, Drops, Flushes, Gains, IsChild, IsSeed, Sends, State, Takes, blank_state, flags_of, noting, parent_facts}
 use Rattle.roster.specs.Standing.{IsStateOf}
 use Rattle.roster.proofs.HeldSteps.{held-given, held-taken, weigh}
-use Rattle.roster.proofs.StateSteps.{all-other, log-after, noted-other, other-owner}
+use Rattle.roster.proofs.StateSteps.{log-after, noted-other, other-owner}
 
 -- ---- counts
 

@@ -1,12 +1,12 @@
 -- What the state of an actor stands for after an event that is not of it.
-use Rattle.std.proofs.Common.{◌≡◌, ◌≢◌, ◌+◌, ◌==◌, ◌&&◌, ◌||◌, ℕ, Bool, true, false, cond, List, [], ◌∷◌, map, refl, sym, ◌∙◌, ap, subst, arith}
+use Rattle.std.proofs.Common.{◌≡◌, ◌+◌, ◌==◌, ◌&&◌, ◌||◌, Bool, true, false, cond, List, [], ◌∷◌, map, refl, sym, ◌∙◌, ap, subst, arith}
 use Rattle.std.proofs.lemmas.Bool.{and_right, cond_both}
 use Rattle.crgc_ids.specs.Actor.{Actor}
 use Rattle.history_model.specs.declared.events.Event.{Event}
 use Rattle.history_model.specs.declared.events.Event.TheVariants.{Seed, Tie, Wake, Take, Spawn, Send, Drop, Retire, Rest, Flush, Sweep}
 use Rattle.history_model.specs.Cluster.{Cluster, newborn, same_actor}
 use Rattle.history_model.specs.Facts.{Fact, Note, created, message_facts, note_by, notes, received, released}
-use Rattle.history_model.specs.Held.{given_at_once, held, is_drop_of, is_note_of}
+use Rattle.history_model.specs.Held.{given_at_once, is_drop_of, is_note_of}
 use Rattle.history_model.specs.Legal.{IsLegal, is_parent}
 use Rattle.history_model.specs.Messages.{is_take_by}
 use Rattle.history_model.specs.State.{is_busy, is_root}

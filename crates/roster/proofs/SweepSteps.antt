@@ -1,5 +1,5 @@
 -- What the table of actors stands for after a sweep.
-use Rattle.std.proofs.Common.{◌≡◌, ◌<◌, ◌==◌, ◌&&◌, ◌||◌, not, ℕ, Bool, true, false, cond, List, [], ◌∷◌, filter, map, refl, sym, ◌∙◌, ap, subst, arith}
+use Rattle.std.proofs.Common.{◌≡◌, ◌==◌, ◌&&◌, ◌||◌, not, ℕ, Bool, true, false, cond, List, [], ◌∷◌, filter, map, refl, sym, ◌∙◌, ap, subst, arith}
 use Rattle.std.proofs.lemmas.Bool.{and_parts, eqb-true, ltb-true}
 use Rattle.std.specs.List.{list_any}
 use Rattle.crgc_ids.specs.Actor.{Actor}
@@ -12,7 +12,7 @@ use Rattle.history_model.specs.Cluster.{Cluster, births, same_actor}
 use Rattle.history_model.specs.Graph.{holds_actor}
 use Rattle.history_model.specs.Legal.{IsLegal}
 use Rattle.history_model.specs.State.{is_up}
-use Rattle.history_model.specs.Sweeps.{dead_at, is_stopped, is_swept, stopped_by}
+use Rattle.history_model.specs.Sweeps.{dead_at, is_stopped, stopped_by}
 use Rattle.history_model.proofs.Basics.{legal-kept, same_actor-equal}
 use Rattle.history_model.proofs.Stopped.{dead_at-quiet}
 use Rattle.actor_states.specs.State.{State}

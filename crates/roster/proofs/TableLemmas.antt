@@ -1,5 +1,5 @@
 -- What a change of one node's actors is in the table.
-use Rattle.std.proofs.Common.{◌≡◌, ◌≢◌, ◌+◌, ◌<◌, ◌≤◌, ◌==◌, ◌&&◌, ℕ, Bool, true, false, cond, List, Option, get_or, length, set, length-set, refl, sym, ◌∙◌, ap, subst, inl, inr, arith}
+use Rattle.std.proofs.Common.{◌≡◌, ◌≢◌, ◌+◌, ◌<◌, ◌==◌, ◌&&◌, ℕ, true, false, cond, List, Option, get_or, length, set, length-set, refl, sym, ◌∙◌, ap, subst, inl, inr, arith}
 use Rattle.std.proofs.lemmas.Bool.{and_from, and_parts, cases_eq, cases_lt, cond-false, cond-true, eq-eqb, ne_eqb}
 use Rattle.std.proofs.lemmas.List.{get_or_default, get_or_past, get_or-set_other, get_or-set_same}
 use Rattle.crgc_ids.specs.Actor.{Actor}
@@ -7,7 +7,7 @@ use Rattle.crgc_ids.proofs.ActorLaws.{same_parts}
 use Rattle.actor_states.specs.State.{Begets, IsAlike, IsChild, IsSeed, State}
 use Rattle.node_actors.specs.Node.{AreAlike, Bears, ChangesIn, IsNextDue, NodeState, Spawns, blank_node, is_due_in, next_actor, state_in}
 use Rattle.roster.specs.Keeping.{AreNumbered}
-use Rattle.roster.specs.Table.{Changes, Crashes, IsAsBefore, IsBirth, IsHere, IsNextFlush, KeepsTable, Seeds, SpawnsFrom, Table, births_in, next_on, node_in, state_at, up_in}
+use Rattle.roster.specs.Table.{Changes, Crashes, IsAsBefore, IsBirth, IsNextFlush, KeepsTable, Seeds, SpawnsFrom, Table, births_in, next_on, node_in, state_at, up_in}
 use Rattle.roster.proofs.HeldSteps.{weigh}
 
 -- the node of an actor that was born is one of the table

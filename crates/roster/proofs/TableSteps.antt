@@ -1,23 +1,22 @@
 -- What the table of actors stands for, event by event.
-use Rattle.std.proofs.Common.{◌≡◌, ◌≢◌, ◌+◌, ◌<◌, ◌≤◌, ◌==◌, ◌||◌, ℕ, Bool, true, false, cond, nat_lt, not, List, [], ◌∷◌, Some, length, map, slice_get, refl, sym, ◌∙◌, ap, subst, inl, inr, arith}
-use Rattle.std.proofs.lemmas.Bool.{cond_both, cond-false, cond-true, eqb-true, false_from_ne_true, false≢true}
+use Rattle.std.proofs.Common.{◌≡◌, ◌≢◌, ◌+◌, ◌==◌, ◌||◌, ℕ, Bool, true, false, cond, not, List, [], ◌∷◌, Some, length, map, slice_get, refl, sym, ◌∙◌, ap, subst, arith}
+use Rattle.std.proofs.lemmas.Bool.{false_from_ne_true, false≢true}
 use Rattle.std.proofs.lemmas.List.{get_or_past}
 use Rattle.std.specs.List.{list_any}
 use Rattle.crgc_ids.specs.Actor.{Actor}
-use Rattle.crgc_ids.proofs.ActorLaws.{same_actor-decides, same_parts}
+use Rattle.crgc_ids.proofs.ActorLaws.{same_actor-decides}
 use Rattle.history_model.specs.declared.events.Event.{Event}
-use Rattle.history_model.specs.declared.events.Event.TheVariants.{Seed, Tie, Wake, Take, Spawn, Send, Drop, Retire, Rest, Flush, Publish, Window, Admit, Lose, Repeat, Crash, Remove, Hand, Sweep}
-use Rattle.history_model.specs.Cluster.{Cluster, births, is_birth_on, is_born, newborn, same_actor}
+use Rattle.history_model.specs.declared.events.Event.TheVariants.{Seed, Tie, Wake, Take, Spawn, Send, Drop, Retire, Rest, Flush, Publish, Window, Admit, Lose, Repeat, Crash, Remove, Hand}
+use Rattle.history_model.specs.Cluster.{Cluster, births, is_born, newborn, same_actor}
 use Rattle.history_model.specs.Legal.{IsLegal}
 use Rattle.history_model.specs.Messages.{Message, waiting}
 use Rattle.history_model.specs.State.{is_crash, is_up}
 use Rattle.history_model.proofs.Basics.{legal-kept, same_actor-equal}
 use Rattle.history_model.proofs.AccountsBirths.{newborn-not_born}
-use Rattle.refob_counts.specs.Counts.{CountTheSame, count_of}
-use Rattle.actor_states.specs.State.{Begets, Drops, Flushes, IsAlike, IsChild, Sends, State, Takes, blank_state}
+use Rattle.actor_states.specs.State.{Begets, Drops, Flushes, IsChild, Sends, State, Takes, blank_state}
 use Rattle.node_actors.specs.Node.{NodeState, blank_node, state_in}
 use Rattle.roster.specs.Standing.{IsRosterOf, IsStateOf, StandsAfter, is_of_no_actor}
-use Rattle.roster.specs.Table.{Changes, Crashes, IsAsBefore, IsBirth, KeepsTable, Seeds, SpawnsFrom, Stops, Table, Ties, births_in, next_on, node_in, state_at, up_in}
+use Rattle.roster.specs.Table.{Changes, Crashes, IsAsBefore, Seeds, SpawnsFrom, Table, Ties, next_on, node_in, state_at}
 use Rattle.roster.proofs.ActorCases.{at-actor}
 use Rattle.roster.proofs.StateEvents.{state-begets, state-born, state-drops, state-flushes, state-owns, state-rests, state-retires, state-seeded, state-sends, state-takes, state-tied, state-wakes}
 use Rattle.roster.proofs.StateSteps.{state-left, touches}

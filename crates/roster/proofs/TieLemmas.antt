@@ -1,6 +1,6 @@
 -- A tie, and one that is taken back.
-use Rattle.std.proofs.Common.{◌≡◌, ◌+◌, ◌<◌, ℕ, Bool, cond, [], ◌∷◌, refl, sym, ◌∙◌, ap, subst, arith}
-use Rattle.crgc_ids.specs.Actor.{Actor, same_actor}
+use Rattle.std.proofs.Common.{◌<◌, [], ◌∷◌, sym, ◌∙◌, ap, subst, arith}
+use Rattle.crgc_ids.specs.Actor.{Actor}
 use Rattle.history_model.proofs.Basics.{same_actor-refl}
 use Rattle.refob_counts.specs.Counts.{count_of}
 use Rattle.actor_states.specs.State.{Gains, IsAlike, State}

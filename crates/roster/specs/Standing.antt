@@ -1,5 +1,5 @@
 -- What the table of actors stands for: what is true of the actors in a history.
-use Rattle.std.specs.Prelude.{◌≡◌, ◌<◌, ◌≤◌, ◌==◌, ◌&&◌, not, ℕ, Bool, true, false, List, [], ◌∷◌, length}
+use Rattle.std.specs.Prelude.{◌≡◌, ◌≤◌, ℕ, Bool, true, false, List, [], ◌∷◌, length}
 use Rattle.crgc_ids.specs.Actor.{Actor}
 use Rattle.history_model.specs.declared.events.Event.{Event}
 use Rattle.history_model.specs.declared.events.Event.TheVariants.{Send, Publish, Window, Admit, Lose, Repeat, Remove, Hand}

@@ -1,5 +1,6 @@
 -- What contracts see of the table of actors, and how its calls change it.
-use Rattle.std.specs.Prelude.{◌≡◌, ◌≢◌, ◌+◌, ◌<◌, ◌==◌, ◌&&◌, if◌then◌else◌, ℕ, Bool, false, true, List, [], ◌∷◌, Option, count_by, get_or, length, nat_lt}
+use Rattle.std.specs.Prelude.{◌≡◌, ◌≢◌, ◌+◌, ◌<◌, ◌==◌, ◌&&◌, if◌then◌else◌, ℕ, Bool, false, true, List, [], ◌∷◌, Option}
+use Rattle.std.specs.Prelude.{count_by, get_or, length, nat_lt}
 use Rattle.std.specs.List.{list_any, sum_by}
 use Rattle.crgc_ids.specs.Actor.{Actor, same_actor}
 use Rattle.history_model.specs.Facts.{created}
@@ -114,7 +115,11 @@ pub record Crashes (old new : Table) (n : ℕ) : Type 0 where
   pub births : (m : ℕ) → births_in new m ≡ births_in old m
   pub states : (a : Actor) → state_at new a ≡ state_at old a
 
+-- the actor is one of those that are stopped
+abbrev pub is_among_stops : List Stop → Actor → Bool
+is_among_stops stops a = list_any (λ s. same_actor s.actor a) stops
+
 -- the stopped actors are those that were, and those of these stops
 pub record Stops (old new : Table) (stops : List Stop) : Type 0 where
   pub kept : KeepsTable old new
-  pub states : (a : Actor) → state_at new a ≡ (if list_any (λ s. same_actor s.actor a) stops then record (state_at old a) { stopped = true } else state_at old a)
+  pub states : (a : Actor) → state_at new a ≡ (if is_among_stops stops a then record (state_at old a) { stopped = true } else state_at old a)

@@ -3,7 +3,8 @@ ghost use Rattle.std.specs.Prelude.{◌≡◌, ◌+◌, ◌*◌, ◌<◌, ◌^�
 ghost use Rattle.crgc_ids.specs.Actor.{Actor};
 ghost use Rattle.crgc_ids.specs.Members.{IsAmong};
 ghost use Rattle.history_model.specs.declared.events.Event.{Event};
-ghost use Rattle.history_model.specs.declared.events.Event.TheVariants.{Seed, Tie, Wake, Take, Spawn, Send, Drop, Retire, Rest, Flush, Crash, Sweep};
+ghost use Rattle.history_model.specs.declared.events.Event.TheVariants.{Seed, Tie, Wake, Take, Spawn, Send, Drop, Retire, Rest};
+ghost use Rattle.history_model.specs.declared.events.Event.TheVariants.{Flush, Crash, Sweep};
 ghost use Rattle.history_model.specs.declared.records.Stop.{Stop};
 ghost use Rattle.history_model.specs.Cluster.{Cluster, is_born};
 ghost use Rattle.history_model.specs.Legal.{IsLegal};

@@ -1,12 +1,14 @@
 //! The table of actors.
-ghost use Rattle.std.specs.Prelude.{ℕ, ◌≡◌, ◌≢◌, ◌+◌, ◌<◌, ◌≤◌, ◌&&◌, ◌==◌, ◌∷◌, nat_lt, [], false, true, length, IfNone, IfOk, IfSome, IsTrue, OnErr, OnOk, count_by, sum_by};
+ghost use Rattle.std.specs.Prelude.{ℕ, ◌≡◌, ◌≢◌, ◌+◌, ◌<◌, ◌≤◌, ◌&&◌, ◌==◌, ◌∷◌, nat_lt, [], false, true, length, IfNone, IfOk};
+ghost use Rattle.std.specs.Prelude.{IfSome, IsTrue, OnErr, OnOk, count_by, sum_by};
 ghost use Rattle.std.specs.List.{AllByRecursion};
 ghost use Rattle.history_model.specs.Facts.{created};
 ghost use Rattle.refob_counts.specs.Counts.{count_of};
 ghost use Rattle.entry_records.specs.Log.{IsEntryOf};
 ghost use Rattle.actor_states.specs.State.{Drops, Flushes, Gains, HasRoom, Sends, Takes, flags_of, has_news, is_this, noting};
 ghost use Rattle.node_actors.specs.Node.{blank_node};
-ghost use Rattle.roster.specs.Table.{Changes, Crashes, IsAsBefore, IsHere, IsNextFlush, NobodyIsFlushed, Seeds, SpawnsFrom, Stops, Ties, births_in, busy_total, next_on, node_in, state_at, stopped_in, up_in};
+ghost use Rattle.roster.specs.Table.{Changes, Crashes, IsAsBefore, IsHere, IsNextFlush, NobodyIsFlushed, Seeds, SpawnsFrom};
+ghost use Rattle.roster.specs.Table.{Stops, Ties, births_in, busy_total, next_on, node_in, state_at, stopped_in, up_in};
 
 use crgc_ids::{ActorId, NoMemory, NodeId};
 use history_model::{Entry, Stop};
