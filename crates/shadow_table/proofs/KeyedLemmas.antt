@@ -24,8 +24,8 @@ place-within test (k ∷ ks) t =
 
 module _ {K V : Type 0} (same : K → K → Bool) (told : (j k : K) → Decides (same j k) (j ≡ k)) (d : V) where
   -- the value of one key is changed, and no other
-  pub found-changed : (ks : List K) (vs : List V) (a : K) (p : ℕ) (v : V) → length vs ≡ length ks → p ≡ position_or_len (same a) ks → p < length vs → (b : K) → found same d ks (set vs p v) b ≡ cond (same b a) v (found same d ks vs b)
-  found-changed ks vs a p v long is inside b =
+  pub found-changed : (ks : List K) (vs : List V) (a : K) (p : ℕ) (v : V) → p < length ks → p ≡ position_or_len (same a) ks → p < length vs → (b : K) → found same d ks (set vs p v) b ≡ cond (same b a) v (found same d ks vs b)
+  found-changed ks vs a p v there is inside b =
       let Case : Bool → Type 0 = λ t. same b a ≡ t → found same d ks (set vs p v) b ≡ cond t v (found same d ks vs b) in
       let case : Case (same b a) = elim (same b a) as Case [
         | true ↦ λ t. (
@@ -34,11 +34,11 @@ module _ {K V : Type 0} (same : K → K → Bool) (told : (j k : K) → Decides 
             ap (λ i. get_or (set vs p v) i d) there ∙ get_or-set_same vs p v d inside
             )
         | false ↦ λ f. (
-            let there : position_or_len (same a) ks < length ks = omega arith in
+            let a_there : position_or_len (same a) ks < length ks = omega arith in
             let apart : position_or_len (same b) ks ≢ p = λ e. (
             let b_there : position_or_len (same b) ks < length ks = omega arith in
             let x : K = get_or ks p a in
-            let own : same a x ≡ true = ap (λ i. same a (get_or ks i a)) is ∙ passes_at_first (same a) ks a there in
+            let own : same a x ≡ true = ap (λ i. same a (get_or ks i a)) is ∙ passes_at_first (same a) ks a a_there in
             let other : same b x ≡ true = ap (λ i. same b (get_or ks i a)) (sym e) ∙ passes_at_first (same b) ks a b_there in
             let one : b ≡ a = (told b x).0 other ∙ sym ((told a x).0 own) in
             false≢true (sym f ∙ (told b a).1 one)
@@ -48,32 +48,32 @@ module _ {K V : Type 0} (same : K → K → Bool) (told : (j k : K) → Decides 
       ] in
       case refl
 
-  -- a key with the value d comes last, whether it was there or not
-  pub found-pushed : (ks : List K) (vs : List V) (k : K) → length vs ≡ length ks → (b : K) → found same d (ks ++ k ∷ []) (vs ++ d ∷ []) b ≡ found same d ks vs b
-  found-pushed ks vs k long b =
+  -- where a value that reads as d does comes last, each key reads as before, whether the new one was there or not
+  pub found-pushed : {X : Type 0} (read : V → X) (ks : List K) (vs : List V) (k : K) (v : V) → read v ≡ read d → length vs ≡ length ks → (b : K) → read (found same d (ks ++ k ∷ []) (vs ++ v ∷ []) b) ≡ read (found same d ks vs b)
+  found-pushed read ks vs k v blank long b =
       let p = position_or_len (same b) ks in
       let push = position_or_len_push (same b) ks k in
-      let more = length-append vs (d ∷ []) in
+      let more = length-append vs (v ∷ []) in
       elim (cases_eq p (length ks)) [
         | inl at_end ↦ (
             let is : position_or_len (same b) (ks ++ k ∷ []) ≡ length ks + cond (same b k) 0 1 = push ∙ ap (λ t. cond t (length ks + cond (same b k) 0 1) p) (eq-eqb p (length ks) at_end) in
             let none : get_or vs p d ≡ d = get_or_past vs p d (omega arith) in
-            let last : (b : Bool) → get_or (vs ++ d ∷ []) (length ks + cond b 0 1) d ≡ d = λ t. elim t as (λ t. get_or (vs ++ d ∷ []) (length ks + cond t 0 1) d ≡ d) [
-              | true ↦ ap (λ i. get_or (vs ++ d ∷ []) i d) (let e : length ks + 0 ≡ length vs = omega arith in e) ∙ last_is vs
-              | false ↦ get_or_past (vs ++ d ∷ []) (length ks + 1) d (let one : length (d ∷ []) ≡ 1 = refl in omega arith)
+            let last : (b : Bool) → read (get_or (vs ++ v ∷ []) (length ks + cond b 0 1) d) ≡ read d = λ t. elim t as (λ t. read (get_or (vs ++ v ∷ []) (length ks + cond t 0 1) d) ≡ read d) [
+              | true ↦ ap (λ i. read (get_or (vs ++ v ∷ []) i d)) (let e : length ks + 0 ≡ length vs = omega arith in e) ∙ ap read (last_is v vs) ∙ blank
+              | false ↦ ap read (get_or_past (vs ++ v ∷ []) (length ks + 1) d (let one : length (v ∷ []) ≡ 1 = refl in omega arith))
             ] in
-            ap (λ i. get_or (vs ++ d ∷ []) i d) is ∙ last (same b k) ∙ sym none
+            ap (λ i. read (get_or (vs ++ v ∷ []) i d)) is ∙ last (same b k) ∙ ap read (sym none)
             )
         | inr before ↦ (
             let is : position_or_len (same b) (ks ++ k ∷ []) ≡ p = push ∙ ap (λ t. cond t (length ks + cond (same b k) 0 1) p) (ne_eqb p (length ks) before) in
             let inside : p < length vs = (let most = at_most (same b) ks in omega arith) in
-            ap (λ i. get_or (vs ++ d ∷ []) i d) is ∙ get_or_append_left vs (d ∷ []) d p inside
+            ap (λ i. read (get_or (vs ++ v ∷ []) i d)) is ∙ ap read (get_or_append_left vs (v ∷ []) d p inside)
             )
       ]
     where
-      last_is : (vs : List V) → get_or (vs ++ d ∷ []) (length vs) d ≡ d
-      last_is [] = refl
-      last_is (v ∷ vs) = last_is vs
+      last_is : (v : V) (vs : List V) → get_or (vs ++ v ∷ []) (length vs) d ≡ v
+      last_is v [] = refl
+      last_is v (x ∷ vs) = last_is v vs
 
       at_most : (test : K → Bool) (ks : List K) → position_or_len test ks ≤ length ks
       at_most test [] = omega arith

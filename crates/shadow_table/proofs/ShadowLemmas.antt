@@ -27,7 +27,7 @@ shadow-changed names shadows actor place was now change long is inside read chan
             )
         | false ↦ λ _. refl
       ] in
-      found-changed same_actor same_actor-decides blank names shadows actor place now long is (omega arith) a ∙ case refl
+      found-changed same_actor same_actor-decides blank names shadows actor place now inside is (omega arith) a ∙ case refl
       );
 }
 
@@ -39,7 +39,7 @@ pub name-extends : (t : Shadows) (a : Actor) → length t.shadows ≡ length t.n
 name-extends t a long =
     elim (is_named t.names a) as (λ b. ExtendsShadows t (cond b t (record { names = t.names ++ a ∷ []; shadows = t.shadows ++ blank ∷ [] }))) [
       | true ↦ extends-self t
-      | false ↦ record { more = a ∷ []; more_shadows = blank ∷ []; names = refl; shadows = refl; same = found-pushed same_actor same_actor-decides blank t.names t.shadows a long }
+      | false ↦ record { more = a ∷ []; more_shadows = blank ∷ []; names = refl; shadows = refl; same = found-pushed same_actor same_actor-decides blank (λ s. s) t.names t.shadows a blank refl long }
     ]
 
 pub extends-more : (t u v : Shadows) → ExtendsShadows t u → ExtendsShadows u v → ExtendsShadows t v

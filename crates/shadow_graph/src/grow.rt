@@ -1,0 +1,78 @@
+//! Edges that are added, with nothing given and released.
+ghost use Rattle.std.specs.Prelude.{◌≡◌, ◌≤◌, true, OnErr, OnOk, length, take};
+ghost use Rattle.edge_table.specs.Table.{Edges};
+ghost use Rattle.shadow_table.specs.Shadows.{is_named};
+ghost use Rattle.shadow_graph.specs.Pairs.{has_pair};
+ghost use Rattle.shadow_graph.specs.Tabled.{ArePairs, ArePairsNamed, AreTabled, ExtendsEdges};
+
+use crgc_ids::{ActorId, NoMemory, PairCount};
+use edge_table::EdgeTable;
+use shadow_table::ShadowTable;
+
+/// The edge between the actors is there. After `NoMemory` all is as before. Constant time on average, amortized.
+fn add_pair(
+    edges: &mut EdgeTable,
+    shadows: &ShadowTable,
+    owner: ActorId,
+    target: ActorId,
+) -> Result<(), NoMemory>
+    requires tabled { AreTabled shadows.now.names edges.old }
+    requires owner { is_named shadows.now.names owner ≡ true }
+    requires target { is_named shadows.now.names target ≡ true }
+    ensures ok { OnOk result (has_pair edges.new.pairs owner target ≡ true) }
+    ensures tabled { AreTabled shadows.now.names edges.new }
+    ensures extends { ExtendsEdges edges.old edges.new }
+{
+    if edges.number_of(owner, target).is_some() {
+        return Ok(());
+    }
+    let from = shadows.place_of(owner).unwrap();
+    let to = shadows.place_of(target).unwrap();
+    match edges.add(owner, target, from, to) {
+        Ok(_) => Ok(()),
+        Err(_) => Err(NoMemory),
+    }
+}
+
+/// The edges between the actors of the rows are there. After `NoMemory` some of them may be. Linear time in the number of
+/// rows, on average.
+pub fn add_pairs(
+    edges: &mut EdgeTable,
+    shadows: &ShadowTable,
+    rows: &[PairCount],
+) -> Result<(), NoMemory>
+    requires tabled { AreTabled shadows.now.names edges.old }
+    requires named { ArePairsNamed shadows.now.names rows.now }
+    ensures ok { OnOk result (ArePairs edges.new.pairs rows.now) }
+    ensures tabled { AreTabled shadows.now.names edges.new }
+    ensures extends { ExtendsEdges edges.old edges.new }
+{
+    for row in rows {
+        add_pair(edges, shadows, row.owner, row.target)?;
+    }
+    Ok(())
+}
+
+/// There are at least so many places. After `NoMemory` there may be some more than before.
+pub fn add_places(edges: &mut EdgeTable, places: u32) -> Result<(), NoMemory>
+    ensures ok { OnOk result (places ≤ edges.new.places) }
+    ensures grown { edges.old.places ≤ edges.new.places }
+    ensures pairs { edges.new.pairs ≡ edges.old.pairs }
+    ensures edges { edges.new.edges ≡ edges.old.edges }
+{
+    for _ in edges.place_count()..places {
+        edges.add_place()?;
+    }
+    Ok(())
+}
+
+/// Only the first so many edges stay.
+pub fn cut_back_edges(edges: &mut EdgeTable, count: u32)
+    ensures pairs { edges.new.pairs ≡ take count edges.old.pairs }
+    ensures edges { edges.new.edges ≡ take count edges.old.edges }
+    ensures places { edges.new.places ≡ edges.old.places }
+{
+    while edges.edge_count() > count {
+        edges.remove_last_edge();
+    }
+}
