@@ -1,2 +1,3 @@
 pub mod Pairs
 pub mod Tabled
+pub mod Settled

@@ -1,13 +1,19 @@
 //! Edges that are added, with nothing given and released.
-ghost use Rattle.std.specs.Prelude.{◌≡◌, ◌≤◌, true, OnErr, OnOk, length, take};
+ghost use Rattle.std.specs.Prelude.{◌≡◌, ◌≤◌, ◌||◌, ◌++◌, true, OnErr, OnOk, length, map, take};
 ghost use Rattle.edge_table.specs.Table.{Edges};
-ghost use Rattle.shadow_table.specs.Shadows.{is_named};
+ghost use Rattle.crgc_ids.specs.Actor.{Actor, same_actor};
+ghost use Rattle.std.specs.List.{AllByRecursion, list_any};
+ghost use Rattle.history_model.specs.Ledgers.{pair_names};
+ghost use Rattle.shadow_table.specs.Shadows.{ExtendsShadows, first_of, is_named};
 ghost use Rattle.shadow_graph.specs.Pairs.{has_pair};
 ghost use Rattle.shadow_graph.specs.Tabled.{ArePairs, ArePairsNamed, AreTabled, ExtendsEdges};
 
-use crgc_ids::{ActorId, NoMemory, PairCount};
+use crate::names::sorted_names;
+use crgc_ids::{ActorCount, ActorId, NoMemory, PairCount};
 use edge_table::EdgeTable;
+use history_model::StateRow;
 use shadow_table::ShadowTable;
+use std::alloc::Global;
 
 /// The edge between the actors is there. After `NoMemory` all is as before. Constant time on average, amortized.
 fn add_pair(
@@ -75,4 +81,25 @@ pub fn cut_back_edges(edges: &mut EdgeTable, count: u32)
     while edges.edge_count() > count {
         edges.remove_last_edge();
     }
+}
+
+/// The actors that the rows name are named, in their order, each with a place among the edges. After `NoMemory` some of them
+/// may be.
+fn add_names(
+    shadows: &mut ShadowTable,
+    edges: &mut EdgeTable,
+    names: &[ActorId],
+) -> Result<(), NoMemory>
+    requires tabled { AreTabled shadows.old.names edges.old }
+    ensures ok { OnOk result ((a : Actor) → is_named shadows.new.names a ≡ (is_named shadows.old.names a || list_any (same_actor a) names.now)) }
+    ensures tabled { OnOk result (AreTabled shadows.new.names edges.new) }
+    ensures shadows { ExtendsShadows shadows.old shadows.new }
+    ensures places { edges.old.places ≤ edges.new.places }
+    ensures pairs { edges.new.pairs ≡ edges.old.pairs }
+    ensures edges { edges.new.edges ≡ edges.old.edges }
+{
+    if shadows.name_all(names).is_err() {
+        return Err(NoMemory);
+    }
+    add_places(edges, shadows.place_count())
 }

@@ -1,5 +1,8 @@
 //! The shadow graph: what all folded bulletins tell of actors and of the references between them.
 #![tactic(auto)]
 
+mod count;
 mod edges;
 mod grow;
+mod names;
+mod settle;
