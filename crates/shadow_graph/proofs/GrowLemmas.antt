@@ -6,7 +6,7 @@ use Rattle.std.proofs.lemmas.List.Folds.{list_any-append}
 use Rattle.std.proofs.lemmas.Option.{none-some}
 use Rattle.std.specs.List.{AllByRecursion, list_any, position_or_len}
 use Rattle.std.specs.Option.{is_some}
-use Rattle.crgc_ids.specs.Actor.{Actor}
+use Rattle.crgc_ids.specs.Actor.{Actor, same_actor}
 use Rattle.crgc_ids.specs.declared.rising.PairCount.{PairCount}
 use Rattle.crgc_ids.proofs.MembersLaws.{all-implied}
 use Rattle.edge_table.specs.Table.{Edges, edge_at, no_edge, same_pair}
@@ -15,6 +15,7 @@ use Rattle.shadow_table.specs.Shadows.{is_named, place_in}
 use Rattle.shadow_graph.specs.Pairs.{has_pair}
 use Rattle.shadow_graph.specs.Tabled.{ArePairs, AreTabled, ExtendsEdges, no_actor, pair_at}
 use Rattle.shadow_table.proofs.KeyedLemmas.{found-pushed}
+use Rattle.shadow_table.proofs.NameLemmas.{named-kept, place-kept}
 use Rattle.shadow_graph.proofs.PairLemmas.{same_pair-decides}
 
 -- ---- edges that go on
@@ -30,6 +31,16 @@ edges-extend-more t u v first then = record {
   edges = then.edges ∙ ap (λ es. es ++ then.more_edges) first.edges ∙ append_assoc t.edges first.more_edges then.more_edges;
   given = λ b a. then.given b a ∙ first.given b a;
   released = λ b a. then.released b a ∙ first.released b a;
+}
+
+pub edges-same : (t u : Edges) → u.pairs ≡ t.pairs → u.edges ≡ t.edges → ExtendsEdges t u
+edges-same t u pairs edges = record {
+  more = [];
+  more_edges = [];
+  pairs = pairs ∙ sym (append-nil t.pairs);
+  edges = edges ∙ sym (append-nil t.edges);
+  given = λ b a. (λ i. (get_or (edges i) (position_or_len (same_pair (b, a)) (pairs i)) no_edge).given);
+  released = λ b a. (λ i. (get_or (edges i) (position_or_len (same_pair (b, a)) (pairs i)) no_edge).released);
 }
 
 -- an edge that is added has nothing given and released
@@ -78,6 +89,20 @@ tabled-added names t u owner target e tabled long owner_named target_named owner
               subst (λ x. P x (get_or (t.pairs ++ (owner, target) ∷ []) k (no_actor, no_actor))) (sym old_edge) (subst (P (edge_at t k)) (sym old_pair) (before within))
               )
         ]
+
+-- as more actors are named, edges keep their places
+pub tabled-named : (names more new : List Actor) (t u : Edges) → new ≡ names ++ more → u.pairs ≡ t.pairs → u.edges ≡ t.edges → length new ≤ u.places → AreTabled names t → AreTabled new u
+tabled-named names more new t u is same_pairs same_edges room tabled =
+    let tu : Edges = record t { places = u.places } in
+    let same : tu ≡ u = λ i. record { pairs = sym same_pairs i; edges = sym same_edges i; places = u.places } in
+    let there : (a : Actor) → is_named names a ≡ true → place_in new a ≡ place_in names a = λ a named. ap (λ ns. place_in ns a) is ∙ place-kept (same_actor a) names more named in
+    subst (AreTabled new) same (record {
+      room = room;
+      owner_named = λ k inside. named-kept names more new (pair_at t.pairs k).0 is (tabled.owner_named k inside);
+      target_named = λ k inside. named-kept names more new (pair_at t.pairs k).1 is (tabled.target_named k inside);
+      owner = λ k inside. tabled.owner k inside ∙ sym (there (pair_at t.pairs k).0 (tabled.owner_named k inside));
+      target = λ k inside. tabled.target k inside ∙ sym (there (pair_at t.pairs k).1 (tabled.target_named k inside));
+    })
 
 -- ---- pairs that are there
 

@@ -1,2 +1,4 @@
 pub mod PairLemmas
 pub mod GrowLemmas
+pub mod NamedLemmas
+pub mod StandsLemmas

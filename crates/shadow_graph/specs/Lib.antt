@@ -1,3 +1,5 @@
 pub mod Pairs
 pub mod Tabled
 pub mod Settled
+pub mod Graph
+pub mod Stands

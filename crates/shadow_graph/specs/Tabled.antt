@@ -1,8 +1,11 @@
 -- How shadows and edges stand to each other, and how both grow.
-use Rattle.std.specs.Prelude.{◌≡◌, ◌<◌, ◌≤◌, ◌++◌, ℕ, true, List, length, slice_index_or}
+use Rattle.std.specs.Prelude.{◌≡◌, ◌<◌, ◌≤◌, ◌++◌, ℕ, true, List, length, map, slice_index_or}
 use Rattle.std.specs.List.{AllByRecursion}
 use Rattle.crgc_ids.specs.Actor.{Actor}
+use Rattle.crgc_ids.specs.declared.rising.ActorCount.{ActorCount}
 use Rattle.crgc_ids.specs.declared.rising.PairCount.{PairCount}
+use Rattle.history_model.specs.declared.records.StateRow.{StateRow}
+use Rattle.history_model.specs.Ledgers.{pair_names}
 use Rattle.edge_table.specs.Table.{Edges, edge_at}
 use Rattle.edge_table.specs.declared.table.Edge.{Edge}
 use Rattle.shadow_table.specs.Shadows.{is_named, place_in}
@@ -39,3 +42,8 @@ ArePairsNamed names rows = AllByRecursion (λ r. (is_named names r.owner ≡ tru
 -- each row's pair is there
 abbrev pub ArePairs : List (Actor × Actor) → List PairCount → Type 0
 ArePairs pairs rows = AllByRecursion (λ r. has_pair pairs r.owner r.target ≡ true) rows
+
+-- the actors that rows name, each as often as they do
+abbrev pub row_names : List StateRow → List ActorCount → List PairCount → List PairCount → List Actor
+row_names states sent created released =
+    map (λ r. r.actor) states ++ (map (λ r. r.actor) sent ++ (pair_names created ++ pair_names released))

@@ -1,12 +1,11 @@
 //! Edges that are added, with nothing given and released.
-ghost use Rattle.std.specs.Prelude.{◌≡◌, ◌≤◌, ◌||◌, ◌++◌, true, OnErr, OnOk, length, map, take};
+ghost use Rattle.std.specs.Prelude.{◌≡◌, ◌≤◌, ◌||◌, true, OnErr, OnOk, length, take};
 ghost use Rattle.edge_table.specs.Table.{Edges};
 ghost use Rattle.crgc_ids.specs.Actor.{Actor, same_actor};
-ghost use Rattle.std.specs.List.{AllByRecursion, list_any};
-ghost use Rattle.history_model.specs.Ledgers.{pair_names};
+ghost use Rattle.std.specs.List.{list_any};
 ghost use Rattle.shadow_table.specs.Shadows.{ExtendsShadows, first_of, is_named};
 ghost use Rattle.shadow_graph.specs.Pairs.{has_pair};
-ghost use Rattle.shadow_graph.specs.Tabled.{ArePairs, ArePairsNamed, AreTabled, ExtendsEdges};
+ghost use Rattle.shadow_graph.specs.Tabled.{ArePairs, ArePairsNamed, AreTabled, ExtendsEdges, row_names};
 
 use crate::names::sorted_names;
 use crgc_ids::{ActorCount, ActorId, NoMemory, PairCount};
@@ -28,6 +27,7 @@ fn add_pair(
     ensures ok { OnOk result (has_pair edges.new.pairs owner target ≡ true) }
     ensures tabled { AreTabled shadows.now.names edges.new }
     ensures extends { ExtendsEdges edges.old edges.new }
+    ensures places { edges.new.places ≡ edges.old.places }
 {
     if edges.number_of(owner, target).is_some() {
         return Ok(());
@@ -52,6 +52,7 @@ pub fn add_pairs(
     ensures ok { OnOk result (ArePairs edges.new.pairs rows.now) }
     ensures tabled { AreTabled shadows.now.names edges.new }
     ensures extends { ExtendsEdges edges.old edges.new }
+    ensures places { edges.new.places ≡ edges.old.places }
 {
     for row in rows {
         add_pair(edges, shadows, row.owner, row.target)?;
@@ -98,8 +99,46 @@ fn add_names(
     ensures pairs { edges.new.pairs ≡ edges.old.pairs }
     ensures edges { edges.new.edges ≡ edges.old.edges }
 {
-    if shadows.name_all(names).is_err() {
-        return Err(NoMemory);
-    }
-    add_places(edges, shadows.place_count())
+    shadows.name_all(names)?;
+    add_places(edges, shadows.place_count())?;
+    Ok(())
+}
+
+/// The actors that the rows name are named, rising, and the pairs of the rows are there. After `NoMemory` some of them may
+/// be. Time in proportion to n log n for n rows.
+pub fn grow(
+    alloc: Global,
+    shadows: &mut ShadowTable,
+    edges: &mut EdgeTable,
+    states: &[StateRow],
+    sent: &[ActorCount],
+    created: &[PairCount],
+    released: &[PairCount],
+) -> Result<(), NoMemory>
+    requires tabled { AreTabled shadows.old.names edges.old }
+    ensures named { OnOk result ((a : Actor) → is_named shadows.new.names a
+        ≡ (is_named shadows.old.names a || list_any (same_actor a) (row_names states.now sent.now created.now released.now))) }
+    ensures created { OnOk result (ArePairs edges.new.pairs created.now) }
+    ensures released { OnOk result (ArePairs edges.new.pairs released.now) }
+    ensures tabled { OnOk result (AreTabled shadows.new.names edges.new) }
+    ensures shadows { ExtendsShadows shadows.old shadows.new }
+    ensures edges { ExtendsEdges edges.old edges.new }
+    ensures places { edges.old.places ≤ edges.new.places }
+{
+    let names = sorted_names(alloc, states, sent, created, released)?;
+    add_names(shadows, edges, names.as_slice())?;
+    add_pairs(edges, shadows, created)?;
+    add_pairs(edges, shadows, released)?;
+    Ok(())
+}
+
+/// Only the first so many places and edges stay.
+pub fn cut_back(shadows: &mut ShadowTable, edges: &mut EdgeTable, places: u32, count: u32)
+    ensures shadows { shadows.new ≡ first_of places shadows.old }
+    ensures pairs { edges.new.pairs ≡ take count edges.old.pairs }
+    ensures edges { edges.new.edges ≡ take count edges.old.edges }
+    ensures places { edges.new.places ≡ edges.old.places }
+{
+    shadows.cut_back(places);
+    cut_back_edges(edges, count);
 }

@@ -4,5 +4,6 @@
 mod count;
 mod edges;
 mod grow;
+pub mod laws;
 mod names;
 mod settle;

@@ -2,6 +2,7 @@
 ghost use Rattle.std.specs.Prelude.{◌≡◌, ◌++◌, IfOk, OnOk, map};
 ghost use Rattle.std.specs.List.Sorted.{IsPermutation};
 ghost use Rattle.history_model.specs.Ledgers.{pair_names};
+ghost use Rattle.shadow_graph.specs.Tabled.{row_names};
 
 use crgc_ids::{ActorCount, ActorId, NoMemory, PairCount};
 use history_model::StateRow;

@@ -213,7 +213,7 @@ impl ShadowTable {
     /// The actors are named, one after another. After `NoMemory` some of them may be. Linear time in their number, on average.
     pub fn name_all(&mut self, actors: &[ActorId]) -> Result<(), NoMemory>
         ensures ok { OnOk result (self.new ≡ with_names self.old actors.now) }
-        ensures err { OnErr result (ExtendsShadows self.old self.new) }
+        ensures extends { ExtendsShadows self.old self.new }
     {
         for actor in actors {
             self.name(*actor)?;

@@ -1,4 +1,4 @@
-use Rattle.std.proofs.Common.{◌≡◌, ◌+◌, List, take, true, subst, sym, ap, ◌∙◌, ◌++◌, ◌∷◌, []}
+use Rattle.std.proofs.Common.{◌≡◌, ◌+◌, List, take, true, subst, refl, sym, ap, ◌∙◌, ◌++◌, ◌∷◌, []}
 use Rattle.std.proofs.ByRecursion.{All-push}
 use Rattle.std.proofs.lemmas.List.{take_more}
 use Rattle.crgc_ids.specs.declared.rising.PairCount.{PairCount}
@@ -8,7 +8,7 @@ use Rattle.shadow_graph.proofs.GrowLemmas.{edges-extend-more, edges-extend-self,
 use Rattle.shadow_graph.proofs.grow.add_pairs.Goals as goal
 
 pub loop-row-init : goal.loop-row-init
-loop-row-init c = record { tabled = c.requires.tabled; extends = edges-extend-self c.args.edges.now; there = tt }
+loop-row-init c = record { tabled = c.requires.tabled; extends = edges-extend-self c.args.edges.now; places = refl; there = tt }
 
 pub loop-row-preserved : goal.loop-row-preserved
 loop-row-preserved c =
@@ -22,5 +22,6 @@ loop-row-preserved c =
     record {
       tabled = c.add_pair.ensures.tabled;
       extends = edges-extend-more c.args.edges.now c.loop-row.edges new c.loop-row.invariant.extends step;
+      places = c.add_pair.ensures.places ∙ c.loop-row.invariant.places;
       there = subst (ArePairs new.pairs) (sym is) all;
     }
