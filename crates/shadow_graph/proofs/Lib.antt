@@ -2,3 +2,8 @@ pub mod PairLemmas
 pub mod GrowLemmas
 pub mod NamedLemmas
 pub mod StandsLemmas
+pub mod FitLemmas
+pub mod AddLemmas
+pub mod LogLemmas
+pub mod AddedLemmas
+pub mod WindowLemmas

@@ -12,11 +12,8 @@ use Rattle.history_model.specs.declared.records.StateRow.{StateRow}
 use Rattle.history_model.specs.Ledgers.{pair_names}
 use Rattle.history_model.proofs.RisingActors.{among-decides}
 use Rattle.shadow_table.specs.Shadows.{is_named}
+use Rattle.shadow_graph.specs.Graph.{NamesRows}
 use Rattle.shadow_graph.specs.Tabled.{ArePairsNamed, row_names}
-
--- the old names and those of the rows, in whatever order these were named
-abbrev pub NamesRows : List Actor → List Actor → List Actor → Type 0
-NamesRows old new names = (a : Actor) → is_named new a ≡ (is_named old a || list_any (same_actor a) names)
 
 pub names-sorted : (old new names sorted : List Actor) → IsPermutation names sorted → NamesRows old new sorted → NamesRows old new names
 names-sorted old new names sorted moved named = λ a. named a ∙ ap (λ b. is_named old a || b) (sym (list_any-IsPermutation (same_actor a) names sorted moved))

@@ -1,8 +1,8 @@
 -- What contracts see of the shadow graph, and what it keeps of its own parts.
-use Rattle.std.specs.Prelude.{◌≡◌, ◌==◌, ◌+◌, ◌-◌, ◌*◌, ◌<◌, ◌≤◌, if◌then◌else◌, ℕ, Bool, List, Option, Some, None, count_by, sum}
-use Rattle.std.specs.List.{AllByRecursion}
+use Rattle.std.specs.Prelude.{◌≡◌, ◌==◌, ◌+◌, ◌-◌, ◌*◌, ◌<◌, ◌≤◌, ◌||◌, if◌then◌else◌, ℕ, Bool, List, Option, Some, None, count_by, sum}
+use Rattle.std.specs.List.{AllByRecursion, list_any}
 use Rattle.std.specs.Option.{option_or}
-use Rattle.crgc_ids.specs.Actor.{Actor}
+use Rattle.crgc_ids.specs.Actor.{Actor, same_actor}
 use Rattle.crgc_ids.specs.LostNodes.{lost_nodes}
 use Rattle.crgc_ids.specs.Nodes.{has_node, nodes_below}
 use Rattle.history_model.specs.declared.records.Bulletin.{Bulletin}
@@ -10,7 +10,7 @@ use Rattle.history_model.specs.MoreFolded.{link_rows, own_rows}
 use Rattle.history_model.specs.Ledgers.{Ledger, actor_total, pair_total, received_total, row_flags}
 use Rattle.edge_table.specs.Table.{Edges}
 use Rattle.membership.specs.Noted.{Noted, links_of}
-use Rattle.shadow_table.specs.Shadows.{Shadows, flag_pair, shadow_at, with_admitted, without_told}
+use Rattle.shadow_table.specs.Shadows.{Shadows, flag_pair, is_named, shadow_at, with_admitted, without_told}
 use Rattle.shadow_table.specs.declared.table.Shadow.{Shadow}
 use Rattle.undo_log.specs.Noted.{noted_count}
 use Rattle.undo_log.specs.Told.{admitted_from, told_by}
@@ -33,6 +33,10 @@ abbrev pub lost_in : Graph → List ℕ
 lost_in g = lost_nodes g.finals.nodes (links_of g.finals)
 
 -- ---- what rows add
+
+-- the old names and those of the rows
+abbrev pub NamesRows : List Actor → List Actor → List Actor → Type 0
+NamesRows old new names = (a : Actor) → is_named new a ≡ (is_named old a || list_any (same_actor a) names)
 
 -- the shadow with the rows of its own node's Delta, of which the sends count or not, and with those of a window
 abbrev pub counted_shadow : ℕ → Bool → Ledger → Ledger → Actor → Shadow → Shadow
@@ -76,6 +80,14 @@ pub record AreWithin (folded lost : ℕ) (shadows : Shadows) (edges : Edges) (lo
   pub released : (b a : Actor) → (edge_between edges b a).released ≤ folded * 4294967296
   pub log_told : (n : ℕ) (owner : Option Actor) (target : Actor) → told_by log n owner target ≤ folded * 4294967296
   pub log_admitted : (n : ℕ) (owner : Option Actor) (target : Actor) → admitted_from log n owner target ≤ folded * 4294967296
+
+-- no count is near the end of its type
+pub record AreSmall (shadows : Shadows) (edges : Edges) : Type 0 where
+  pub received : (a : Actor) → (shadow_at shadows a).received ≤ 4611686018427387904
+  pub told : (a : Actor) → (shadow_at shadows a).told ≤ 4611686018427387904
+  pub admitted : (a : Actor) → (shadow_at shadows a).admitted ≤ 4611686018427387904
+  pub given : (b a : Actor) → (edge_between edges b a).given ≤ 4611686018427387904
+  pub released : (b a : Actor) → (edge_between edges b a).released ≤ 4611686018427387904
 
 -- what the log counts is there
 abbrev pub IsLogCovered : Shadows → Edges → List (List Correction) → Type 0

@@ -47,3 +47,10 @@ ArePairs pairs rows = AllByRecursion (λ r. has_pair pairs r.owner r.target ≡ 
 abbrev pub row_names : List StateRow → List ActorCount → List PairCount → List PairCount → List Actor
 row_names states sent created released =
     map (λ r. r.actor) states ++ (map (λ r. r.actor) sent ++ (pair_names created ++ pair_names released))
+
+-- each count of the rows is below 2^32, as its type is
+pub record AreCounts (states : List StateRow) (sent : List ActorCount) (created released : List PairCount) : Type 0 where
+  pub of_states : AllByRecursion (λ r. r.received < 4294967296) states
+  pub of_sent : AllByRecursion (λ r. r.count < 4294967296) sent
+  pub of_created : AllByRecursion (λ r. r.count < 4294967296) created
+  pub of_released : AllByRecursion (λ r. r.count < 4294967296) released

@@ -5,7 +5,7 @@ ghost use Rattle.crgc_ids.specs.Actor.{Actor, same_actor};
 ghost use Rattle.std.specs.List.{list_any};
 ghost use Rattle.shadow_table.specs.Shadows.{ExtendsShadows, first_of, is_named};
 ghost use Rattle.shadow_graph.specs.Pairs.{has_pair};
-ghost use Rattle.shadow_graph.specs.Tabled.{ArePairs, ArePairsNamed, AreTabled, ExtendsEdges, row_names};
+ghost use Rattle.shadow_graph.specs.Tabled.{AreCounts, ArePairs, ArePairsNamed, AreTabled, ExtendsEdges, row_names};
 
 use crate::names::sorted_names;
 use crgc_ids::{ActorCount, ActorId, NoMemory, PairCount};
@@ -118,6 +118,7 @@ pub fn grow(
     requires tabled { AreTabled shadows.old.names edges.old }
     ensures named { OnOk result ((a : Actor) → is_named shadows.new.names a
         ≡ (is_named shadows.old.names a || list_any (same_actor a) (row_names states.now sent.now created.now released.now))) }
+    ensures fits { OnOk result (AreCounts states.now sent.now created.now released.now) }
     ensures created { OnOk result (ArePairs edges.new.pairs created.now) }
     ensures released { OnOk result (ArePairs edges.new.pairs released.now) }
     ensures tabled { OnOk result (AreTabled shadows.new.names edges.new) }

@@ -1,9 +1,11 @@
 //! The shadow graph: what all folded bulletins tell of actors and of the references between them.
 #![tactic(auto)]
 
+mod add;
 mod count;
 mod edges;
 mod grow;
 pub mod laws;
 mod names;
 mod settle;
+mod windows;

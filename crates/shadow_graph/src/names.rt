@@ -1,8 +1,9 @@
 //! The actors that the rows of a bulletin name.
-ghost use Rattle.std.specs.Prelude.{◌≡◌, ◌++◌, IfOk, OnOk, map};
+ghost use Rattle.std.specs.Prelude.{◌≡◌, ◌++◌, ◌<◌, IfOk, OnOk, map};
+ghost use Rattle.std.specs.List.{AllByRecursion};
 ghost use Rattle.std.specs.List.Sorted.{IsPermutation};
 ghost use Rattle.history_model.specs.Ledgers.{pair_names};
-ghost use Rattle.shadow_graph.specs.Tabled.{row_names};
+ghost use Rattle.shadow_graph.specs.Tabled.{AreCounts, row_names};
 
 use crgc_ids::{ActorCount, ActorId, NoMemory, PairCount};
 use history_model::StateRow;
@@ -16,8 +17,8 @@ pub fn sorted_names(
     created: &[PairCount],
     released: &[PairCount],
 ) -> Result<Vec<ActorId>, NoMemory>
-    ensures { IfOk result (λ v. IsPermutation
-        (map (λ r. r.actor) states.now ++ (map (λ r. r.actor) sent.now ++ (pair_names created.now ++ pair_names released.now))) v.items) }
+    ensures names { IfOk result (λ v. IsPermutation (row_names states.now sent.now created.now released.now) v.items) }
+    ensures fits { OnOk result (AreCounts states.now sent.now created.now released.now) }
 {
     let mut names = Vec::new(alloc);
     push_states(&mut names, states)?;
@@ -30,10 +31,11 @@ pub fn sorted_names(
 
 /// The actors of the states come last.
 fn push_states(names: &mut Vec<ActorId>, rows: &[StateRow]) -> Result<(), NoMemory>
-    ensures { OnOk result (names.new.items ≡ names.old.items ++ map (λ r. r.actor) rows.now) }
+    ensures names { OnOk result (names.new.items ≡ names.old.items ++ map (λ r. r.actor) rows.now) }
+    ensures fits { OnOk result (AllByRecursion (λ r. r.received < 4294967296) rows.now) }
 {
     for row in rows {
-        if names.push(row.actor).is_err() {
+        if names.push(named_in_state(*row)).is_err() {
             return Err(NoMemory);
         }
     }
@@ -42,10 +44,11 @@ fn push_states(names: &mut Vec<ActorId>, rows: &[StateRow]) -> Result<(), NoMemo
 
 /// The actors of the rows come last.
 fn push_counts(names: &mut Vec<ActorId>, rows: &[ActorCount]) -> Result<(), NoMemory>
-    ensures { OnOk result (names.new.items ≡ names.old.items ++ map (λ r. r.actor) rows.now) }
+    ensures names { OnOk result (names.new.items ≡ names.old.items ++ map (λ r. r.actor) rows.now) }
+    ensures fits { OnOk result (AllByRecursion (λ r. r.count < 4294967296) rows.now) }
 {
     for row in rows {
-        if names.push(row.actor).is_err() {
+        if names.push(named_in_count(*row)).is_err() {
             return Err(NoMemory);
         }
     }
@@ -54,12 +57,38 @@ fn push_counts(names: &mut Vec<ActorId>, rows: &[ActorCount]) -> Result<(), NoMe
 
 /// The owner and the target of each row come last.
 fn push_pairs(names: &mut Vec<ActorId>, rows: &[PairCount]) -> Result<(), NoMemory>
-    ensures { OnOk result (names.new.items ≡ names.old.items ++ pair_names rows.now) }
+    ensures names { OnOk result (names.new.items ≡ names.old.items ++ pair_names rows.now) }
+    ensures fits { OnOk result (AllByRecursion (λ r. r.count < 4294967296) rows.now) }
 {
     for row in rows {
-        if names.push(row.owner).is_err() || names.push(row.target).is_err() {
+        let (owner, target) = named_in_pair(*row);
+        if names.push(owner).is_err() || names.push(target).is_err() {
             return Err(NoMemory);
         }
     }
     Ok(())
+}
+
+/// The actor of the row.
+fn named_in_state(row: StateRow) -> ActorId
+    ensures actor { result ≡ row.actor }
+    ensures fits { row.received < 4294967296 }
+{
+    row.actor
+}
+
+/// The actor of the row.
+fn named_in_count(row: ActorCount) -> ActorId
+    ensures actor { result ≡ row.actor }
+    ensures fits { row.count < 4294967296 }
+{
+    row.actor
+}
+
+/// The owner and the target of the row.
+fn named_in_pair(row: PairCount) -> (ActorId, ActorId)
+    ensures actors { result ≡ (row.owner, row.target) }
+    ensures fits { row.count < 4294967296 }
+{
+    (row.owner, row.target)
 }

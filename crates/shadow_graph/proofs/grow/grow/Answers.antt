@@ -2,9 +2,10 @@ use Rattle.std.proofs.Common.{◌≡◌, List, subst, sym, ap, ◌∙◌, ◌||�
 use Rattle.std.specs.List.{list_any}
 use Rattle.crgc_ids.specs.Actor.{Actor, same_actor}
 use Rattle.shadow_table.specs.Shadows.{is_named}
+use Rattle.shadow_graph.specs.Graph.{NamesRows}
 use Rattle.shadow_graph.specs.Tabled.{row_names}
 use Rattle.shadow_graph.proofs.GrowLemmas.{edges-extend-more, edges-extend-self, edges-same, pairs-kept}
-use Rattle.shadow_graph.proofs.NamedLemmas.{NamesRows, created-named, names-sorted, released-named}
+use Rattle.shadow_graph.proofs.NamedLemmas.{created-named, names-sorted, released-named}
 use Rattle.shadow_graph.proofs.grow.grow.Goals as goal
 
 pub returns-in_err-names-clause-edges : goal.returns-in_err-names-clause-edges
@@ -18,7 +19,7 @@ add_pairs-requires-clause-named c =
     let old = c.args.shadows.now.names in
     let new = c.add_names.new.shadows.names in
     let sorted : NamesRows old new c.in_ok-names.names.items = subst (NamesRows old new) c.as_slice.ensures.value c.in_ok-add_names.ensures.ok in
-    let all = names-sorted old new (row_names c.args.states.now c.args.sent.now c.args.created.now c.args.released.now) c.in_ok-names.names.items c.in_ok-names.ensures sorted in
+    let all = names-sorted old new (row_names c.args.states.now c.args.sent.now c.args.created.now c.args.released.now) c.in_ok-names.names.items c.in_ok-names.ensures.names sorted in
     created-named old new c.args.states.now c.args.sent.now c.args.created.now c.args.released.now all
 
 pub add_pairs-requires-2-clause-named : goal.add_pairs-requires-2-clause-named
@@ -26,7 +27,7 @@ add_pairs-requires-2-clause-named c =
     let old = c.args.shadows.now.names in
     let new = c.add_names.new.shadows.names in
     let sorted : NamesRows old new c.in_ok-names.names.items = subst (NamesRows old new) c.as_slice.ensures.value c.in_ok-add_names.ensures.ok in
-    let all = names-sorted old new (row_names c.args.states.now c.args.sent.now c.args.created.now c.args.released.now) c.in_ok-names.names.items c.in_ok-names.ensures sorted in
+    let all = names-sorted old new (row_names c.args.states.now c.args.sent.now c.args.created.now c.args.released.now) c.in_ok-names.names.items c.in_ok-names.ensures.names sorted in
     released-named old new c.args.states.now c.args.sent.now c.args.created.now c.args.released.now all
 
 pub returns-clause-named : goal.returns-clause-named
@@ -34,7 +35,7 @@ returns-clause-named c =
     let old = c.args.shadows.now.names in
     let new = c.add_names.new.shadows.names in
     let sorted : NamesRows old new c.in_ok-names.names.items = subst (NamesRows old new) c.as_slice.ensures.value c.in_ok-add_names.ensures.ok in
-    names-sorted old new (row_names c.args.states.now c.args.sent.now c.args.created.now c.args.released.now) c.in_ok-names.names.items c.in_ok-names.ensures sorted
+    names-sorted old new (row_names c.args.states.now c.args.sent.now c.args.created.now c.args.released.now) c.in_ok-names.names.items c.in_ok-names.ensures.names sorted
 
 pub returns-clause-created : goal.returns-clause-created
 returns-clause-created c =

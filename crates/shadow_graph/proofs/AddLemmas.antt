@@ -1,0 +1,65 @@
+-- The rows of a bulletin, counted.
+use Rattle.std.proofs.Common.{◌≡◌, ◌+◌, ◌<◌, ◌^◌, ◌==◌, ℕ, Bool, true, false, cond, List, Option, Some, None, refl, sym, ◌∙◌, ap, subst, arith}
+use Rattle.std.specs.List.{AllByRecursion}
+use Rattle.std.specs.Option.{option_or}
+use Rattle.crgc_ids.specs.Actor.{Actor, IsActorBelow, IsPairBelow, same_actor}
+use Rattle.crgc_ids.specs.Rising.{IsRising}
+use Rattle.crgc_ids.specs.declared.rising.ActorCount.{ActorCount}
+use Rattle.crgc_ids.specs.declared.rising.PairCount.{PairCount}
+use Rattle.crgc_ids.proofs.ActorLaws.{IsActorBelow-apart, same_actor-decides}
+use Rattle.history_model.specs.declared.records.Delta.{Delta}
+use Rattle.history_model.specs.declared.records.StateRow.{StateRow}
+use Rattle.history_model.specs.Ledgers.{Ledger, RowsRise, actor_total, delta_ledger, no_rows, pair_total}
+use Rattle.delta_graph.specs.Sums.{CountsFit}
+use Rattle.edge_table.specs.Table.{Edges, same_pair}
+use Rattle.edge_table.specs.declared.table.Edge.{Edge}
+use Rattle.shadow_table.specs.Shadows.{ChangesShadows, Shadows, shadow_at, with_states, with_told}
+use Rattle.shadow_table.specs.declared.table.Shadow.{Shadow}
+use Rattle.undo_log.specs.Noted.{noted_count}
+use Rattle.shadow_graph.specs.Graph.{AddsRows, counted_shadow}
+use Rattle.shadow_graph.specs.Pairs.{ChangesEdges, KeepsEnds, edge_between, with_given, with_released}
+use Rattle.shadow_graph.specs.Tabled.{AreCounts}
+use Rattle.shadow_graph.proofs.FitLemmas.{pair-apart, rising-fits}
+use Rattle.shadow_graph.proofs.PairLemmas.{same_pair-decides}
+
+-- rows that rise, and whose counts are below 2^32, have room
+pub counts-fit : (l : Ledger) → RowsRise l → AreCounts l.states l.sent l.created l.released → CountsFit l
+counts-fit l up fits = record {
+  received = rising-fits same_actor same_actor-decides IsActorBelow IsActorBelow-apart (λ (r : StateRow). r.actor) (λ (r : StateRow). r.received) (2 ^ 32) (omega arith) l.states up.states fits.of_states;
+  sent = rising-fits same_actor same_actor-decides IsActorBelow IsActorBelow-apart (λ (r : ActorCount). r.actor) (λ (r : ActorCount). r.count) (2 ^ 32) (omega arith) l.sent up.sent fits.of_sent;
+  created = λ b a. of_pairs l.created up.created fits.of_created (b, a);
+  released = λ b a. of_pairs l.released up.released fits.of_released (b, a);
+}
+  where
+    of_pairs : (rows : List PairCount) → IsRising (λ r s. IsPairBelow r.owner r.target s.owner s.target) rows → AllByRecursion (λ r. r.count < 4294967296) rows → (p : Actor × Actor) → pair_total p.0 p.1 rows < 2 ^ 32
+    of_pairs rows up fits p = rising-fits {K = Actor × Actor} same_pair same_pair-decides (λ p q. IsPairBelow p.0 p.1 q.0 q.1) pair-apart (λ (r : PairCount). (r.owner, r.target)) (λ (r : PairCount). r.count) (2 ^ 32) (omega arith) rows up fits p
+
+-- a count that is noted has room
+pub noted-fits : (l : Ledger) → CountsFit l → (owner : Option Actor) (target : Actor) → noted_count owner target l.sent l.created < 4294967296
+noted-fits l fits None target = fits.sent target
+noted-fits l fits (Some owner) target = fits.created owner target
+
+pub counts-same : (states states' : List StateRow) (sent sent' : List ActorCount) (created created' released released' : List PairCount) → states ≡ states' → sent ≡ sent' → created ≡ created' → released ≡ released' → AreCounts states sent created released → AreCounts states' sent' created' released'
+counts-same states states' sent sent' created created' released released' e f g h counts = record {
+  of_states = subst (AllByRecursion (λ r. r.received < 4294967296)) e counts.of_states;
+  of_sent = subst (AllByRecursion (λ r. r.count < 4294967296)) f counts.of_sent;
+  of_created = subst (AllByRecursion (λ r. r.count < 4294967296)) g counts.of_created;
+  of_released = subst (AllByRecursion (λ r. r.count < 4294967296)) h counts.of_released;
+}
+
+-- a Delta's rows
+pub delta-adds : (d : Delta) (counts : Bool) (s t u : Shadows) (e f g : Edges) → ChangesShadows s t (λ a x. with_states d.node a d.states x) → ChangesShadows t u (λ a x. with_told (cond counts (actor_total a d.sent) 0) x) → ChangesEdges e f (λ b a x. with_given (cond counts (pair_total b a d.created) 0) x) → ChangesEdges f g (λ b a x. with_released (pair_total b a d.released) x) → AddsRows d.node counts (delta_ledger d) no_rows s u e g
+delta-adds d counts s t u e f g states told given released = record {
+  shadows = λ a. (
+      let n = cond counts (actor_total a d.sent) 0 in
+      let old : Shadow = shadow_at s a in
+      let zero_more : old.admitted ≡ old.admitted + 0 = omega arith in
+      told.shadows a ∙ ap (with_told n) (states.shadows a) ∙ (λ i. record (counted_shadow d.node counts (delta_ledger d) no_rows a old) { admitted = zero_more i })
+      );
+  given = λ b a. (
+      let last = ap (λ (x : Edge). x.given) (released.edges b a) in
+      let more = ap (λ (x : Edge). x.given) (given.edges b a) in
+      omega (arith, last, more)
+      );
+  released = λ b a. ap (λ (x : Edge). x.released) (released.edges b a) ∙ ap (λ (x : Edge). x.released + pair_total b a d.released) (given.edges b a);
+}
