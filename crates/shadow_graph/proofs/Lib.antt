@@ -7,3 +7,4 @@ pub mod AddLemmas
 pub mod LogLemmas
 pub mod AddedLemmas
 pub mod WindowLemmas
+pub mod SettleLemmas

@@ -9,3 +9,7 @@ pub mod laws;
 mod names;
 mod settle;
 mod windows;
+
+pub use add::add_delta;
+pub use settle::settle_node;
+pub use windows::add_window;

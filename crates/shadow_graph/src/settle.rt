@@ -3,15 +3,18 @@ ghost use Rattle.std.specs.Prelude.{◌≡◌, ◌+◌, ◌<◌, ◌^◌, ◌&&�
 ghost use Rattle.std.specs.List.{AllByRecursion};
 ghost use Rattle.crgc_ids.specs.Actor.{Actor, same_actor};
 ghost use Rattle.shadow_table.specs.Shadows.{ChangesShadows, shadow_at, with_admitted, without_told};
-ghost use Rattle.shadow_graph.specs.Pairs.{ChangesEdges, edge_between, with_given, without_given};
+ghost use Rattle.shadow_graph.specs.Graph.{IsLogCovered, Settles};
+ghost use Rattle.shadow_graph.specs.Pairs.{ChangesEdges, KeepsEnds, edge_between, with_given, without_given};
 ghost use Rattle.shadow_graph.specs.Settled.{IsCovered};
 ghost use Rattle.undo_log.specs.Keys.{same_owner};
+ghost use Rattle.undo_log.specs.Told.{admitted_from};
 ghost use Rattle.undo_log.specs.Totals.{admitted_total, told_total};
 
 use crate::edges;
+use crgc_ids::NodeId;
 use edge_table::EdgeTable;
 use shadow_table::ShadowTable;
-use undo_log::Correction;
+use undo_log::{Correction, UndoLog};
 
 /// What the row says was told is taken back.
 fn take_back_row(shadows: &mut ShadowTable, edges: &mut EdgeTable, row: &Correction)
@@ -48,7 +51,7 @@ fn put_in_row(shadows: &mut ShadowTable, edges: &mut EdgeTable, row: &Correction
 }
 
 /// What the rows say was told is taken back. Linear time in the number of rows, on average.
-pub fn take_back_all(shadows: &mut ShadowTable, edges: &mut EdgeTable, rows: &[Correction])
+fn take_back_all(shadows: &mut ShadowTable, edges: &mut EdgeTable, rows: &[Correction])
     requires { AllByRecursion (λ r. IsCovered shadows.old.names edges.old.pairs r.owner r.target) rows.now }
     ensures shadows { ChangesShadows shadows.old shadows.new (λ a s. without_told (told_total None a rows.now) s) }
     ensures edges { ChangesEdges edges.old edges.new (λ b a e. without_given (told_total (Some b) a rows.now) e) }
@@ -59,7 +62,7 @@ pub fn take_back_all(shadows: &mut ShadowTable, edges: &mut EdgeTable, rows: &[C
 }
 
 /// What the rows say was admitted is put in. Linear time in the number of rows, on average.
-pub fn put_in_all(shadows: &mut ShadowTable, edges: &mut EdgeTable, rows: &[Correction])
+fn put_in_all(shadows: &mut ShadowTable, edges: &mut EdgeTable, rows: &[Correction])
     requires covered { AllByRecursion (λ r. IsCovered shadows.old.names edges.old.pairs r.owner r.target) rows.now }
     requires admitted_fits { (a : Actor) → (shadow_at shadows.old a).admitted + admitted_total None a rows.now < 2 ^ 64 }
     requires given_fits { (b a : Actor) → (edge_between edges.old b a).given + admitted_total (Some b) a rows.now < 2 ^ 64 }
@@ -69,4 +72,19 @@ pub fn put_in_all(shadows: &mut ShadowTable, edges: &mut EdgeTable, rows: &[Corr
     for row in rows {
         put_in_row(shadows, edges, row);
     }
+}
+
+/// The node is lost: what it told is taken back, and what others admitted from it is put in. Linear time in the number of rows
+/// noted of the node, on average.
+pub fn settle_node(shadows: &mut ShadowTable, edges: &mut EdgeTable, log: &UndoLog, node: NodeId)
+    requires covered { IsLogCovered shadows.old edges.old log.now }
+    requires admitted_fits { (a : Actor) → (shadow_at shadows.old a).admitted + admitted_from log.now node None a < 2 ^ 64 }
+    requires given_fits { (b a : Actor) → (edge_between edges.old b a).given + admitted_from log.now node (Some b) a < 2 ^ 64 }
+    ensures settles { Settles node log.now shadows.old shadows.new edges.old edges.new }
+    ensures names { shadows.new.names ≡ shadows.old.names }
+    ensures ends { KeepsEnds edges.old edges.new }
+{
+    let rows = log.rows(node);
+    take_back_all(shadows, edges, rows);
+    put_in_all(shadows, edges, rows);
 }
