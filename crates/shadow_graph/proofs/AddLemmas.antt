@@ -46,20 +46,3 @@ counts-same states states' sent sent' created created' released released' e f g 
   of_created = subst (AllByRecursion (λ r. r.count < 4294967296)) g counts.of_created;
   of_released = subst (AllByRecursion (λ r. r.count < 4294967296)) h counts.of_released;
 }
-
--- a Delta's rows
-pub delta-adds : (d : Delta) (counts : Bool) (s t u : Shadows) (e f g : Edges) → ChangesShadows s t (λ a x. with_states d.node a d.states x) → ChangesShadows t u (λ a x. with_told (cond counts (actor_total a d.sent) 0) x) → ChangesEdges e f (λ b a x. with_given (cond counts (pair_total b a d.created) 0) x) → ChangesEdges f g (λ b a x. with_released (pair_total b a d.released) x) → AddsRows d.node counts (delta_ledger d) no_rows s u e g
-delta-adds d counts s t u e f g states told given released = record {
-  shadows = λ a. (
-      let n = cond counts (actor_total a d.sent) 0 in
-      let old : Shadow = shadow_at s a in
-      let zero_more : old.admitted ≡ old.admitted + 0 = omega arith in
-      told.shadows a ∙ ap (with_told n) (states.shadows a) ∙ (λ i. record (counted_shadow d.node counts (delta_ledger d) no_rows a old) { admitted = zero_more i })
-      );
-  given = λ b a. (
-      let last = ap (λ (x : Edge). x.given) (released.edges b a) in
-      let more = ap (λ (x : Edge). x.given) (given.edges b a) in
-      omega (arith, last, more)
-      );
-  released = λ b a. ap (λ (x : Edge). x.released) (released.edges b a) ∙ ap (λ (x : Edge). x.released + pair_total b a d.released) (given.edges b a);
-}

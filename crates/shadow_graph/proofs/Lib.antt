@@ -6,5 +6,6 @@ pub mod FitLemmas
 pub mod AddLemmas
 pub mod LogLemmas
 pub mod AddedLemmas
-pub mod WindowLemmas
 pub mod SettleLemmas
+pub mod LosingLemmas
+pub mod GraphLemmas

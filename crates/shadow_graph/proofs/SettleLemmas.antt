@@ -42,11 +42,3 @@ rows-covered names pairs rows room covered =
     let admitted = total-member (λ (x : Correction). same_owner r.owner x.owner && same_actor r.target x.target) (λ x. x.admitted) r rows m own in
     let some = all-member (λ (x : Correction). 0 < x.told + x.admitted) r rows room.stand m in
     covered r.owner r.target (omega (arith, told, admitted, some)))
-
--- taken back, and then put in
-pub settled : (node : ℕ) (log : List (List Correction)) (s t u : Shadows) (e f g : Edges) → ChangesShadows s t (λ a x. without_told (told_by log node None a) x) → ChangesShadows t u (λ a x. with_admitted (admitted_from log node None a) x) → ChangesEdges e f (λ b a x. without_given (told_by log node (Some b) a) x) → ChangesEdges f g (λ b a x. with_given (admitted_from log node (Some b) a) x) → Settles node log s u e g
-settled node log s t u e f g back in_ back' in_' = record {
-  shadows = λ a. in_.shadows a ∙ ap (with_admitted (admitted_from log node None a)) (back.shadows a);
-  given = λ b a. ap (λ (x : Edge). x.given) (in_'.edges b a) ∙ ap (λ (x : Edge). x.given + admitted_from log node (Some b) a) (back'.edges b a);
-  released = λ b a. ap (λ (x : Edge). x.released) (in_'.edges b a) ∙ ap (λ (x : Edge). x.released) (back'.edges b a);
-}

@@ -1,10 +1,9 @@
 -- What contracts see of the shadow graph, and what it keeps of its own parts.
-use Rattle.std.specs.Prelude.{◌≡◌, ◌==◌, ◌+◌, ◌-◌, ◌*◌, ◌<◌, ◌≤◌, ◌||◌, if◌then◌else◌, ℕ, Bool, List, Option, Some, None, count_by, sum}
-use Rattle.std.specs.List.{AllByRecursion, list_any}
+use Rattle.std.specs.Prelude.{◌≡◌, ◌==◌, ◌+◌, ◌-◌, ◌<◌, ◌≤◌, ◌||◌, if◌then◌else◌, ℕ, Bool, List, Option, Some, None}
+use Rattle.std.specs.List.{list_any}
 use Rattle.std.specs.Option.{option_or}
 use Rattle.crgc_ids.specs.Actor.{Actor, same_actor}
 use Rattle.crgc_ids.specs.LostNodes.{lost_nodes}
-use Rattle.crgc_ids.specs.Nodes.{has_node, nodes_below}
 use Rattle.history_model.specs.declared.records.Bulletin.{Bulletin}
 use Rattle.history_model.specs.MoreFolded.{link_rows, own_rows}
 use Rattle.history_model.specs.Ledgers.{Ledger, actor_total, pair_total, received_total, row_flags}
@@ -17,7 +16,6 @@ use Rattle.undo_log.specs.Told.{admitted_from, told_by}
 use Rattle.undo_log.specs.declared.corrections.Correction.{Correction}
 use Rattle.shadow_graph.specs.Pairs.{edge_between}
 use Rattle.shadow_graph.specs.Settled.{IsCovered}
-use Rattle.shadow_graph.specs.Tabled.{AreTabled}
 
 -- the actors and their shadows, the edges between them, what each node told and what others admitted from it, the Finals, and
 -- how many bulletins of each node are folded
@@ -69,17 +67,7 @@ pub record Settles (node : ℕ) (log : List (List Correction)) (old new : Shadow
       ≡ ((edge_between was b a).given - told_by log node (Some b) a) + admitted_from log node (Some b) a
   pub released : (b a : Actor) → (edge_between now b a).released ≡ (edge_between was b a).released
 
--- ---- what the graph keeps
-
--- each bulletin counts something less than 2^32 times, and each node's corrections less than 2^56 times
-pub record AreWithin (folded lost : ℕ) (shadows : Shadows) (edges : Edges) (log : List (List Correction)) : Type 0 where
-  pub received : (a : Actor) → (shadow_at shadows a).received ≤ folded * 4294967296
-  pub told : (a : Actor) → (shadow_at shadows a).told ≤ folded * 4294967296
-  pub admitted : (a : Actor) → (shadow_at shadows a).admitted ≤ folded * 4294967296 + lost * 72057594037927936
-  pub given : (b a : Actor) → (edge_between edges b a).given ≤ folded * 4294967296 + lost * 72057594037927936
-  pub released : (b a : Actor) → (edge_between edges b a).released ≤ folded * 4294967296
-  pub log_told : (n : ℕ) (owner : Option Actor) (target : Actor) → told_by log n owner target ≤ folded * 4294967296
-  pub log_admitted : (n : ℕ) (owner : Option Actor) (target : Actor) → admitted_from log n owner target ≤ folded * 4294967296
+-- ---- what the parts keep
 
 -- no count is near the end of its type
 pub record AreSmall (shadows : Shadows) (edges : Edges) : Type 0 where
@@ -94,15 +82,3 @@ abbrev pub IsLogCovered : Shadows → Edges → List (List Correction) → Type 
 IsLogCovered shadows edges log =
     (n : ℕ) (owner : Option Actor) (target : Actor) → 0 < told_by log n owner target + admitted_from log n owner target
     → IsCovered shadows.names edges.pairs owner target
-
--- how many of the 16 nodes that there may be are among these
-abbrev pub lost_count : List ℕ → ℕ
-lost_count lost = count_by (has_node lost) (nodes_below 16)
-
--- how the parts of the graph stand to each other
-pub record IsKept (shadows : Shadows) (edges : Edges) (log : List (List Correction)) (finals : Noted) (lost cut : List ℕ) : Type 0 where
-  pub tabled : AreTabled shadows.names edges
-  pub covered : IsLogCovered shadows edges log
-  pub within : AreWithin (sum cut) (lost_count lost) shadows edges log
-  pub by_finals : lost ≡ lost_nodes finals.nodes (links_of finals)
-  pub counts : AllByRecursion (λ k. k ≤ 1000000) cut

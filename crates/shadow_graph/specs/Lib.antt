@@ -3,3 +3,5 @@ pub mod Tabled
 pub mod Settled
 pub mod Graph
 pub mod Stands
+pub mod Losing
+pub mod Taken

@@ -11,5 +11,5 @@ mod settle;
 mod windows;
 
 pub use add::add_delta;
-pub use settle::settle_node;
+pub use settle::settle_lost;
 pub use windows::add_window;

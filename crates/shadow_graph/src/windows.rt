@@ -2,12 +2,13 @@
 ghost use Rattle.std.specs.Prelude.{◌≡◌, ◌≤◌, if◌then◌else◌, true, Bool, Option, OnErr, OnOk};
 ghost use Rattle.std.specs.List.{AllByRecursion};
 ghost use Rattle.crgc_ids.specs.Actor.{Actor};
+ghost use Rattle.history_model.specs.declared.records.Bulletin.TheVariants as bulletins;
 ghost use Rattle.history_model.specs.Ledgers.{ledger_names, no_rows, window_ledger};
 ghost use Rattle.delta_graph.specs.Sums.{CountsFit};
 ghost use Rattle.shadow_table.specs.Shadows.{ExtendsShadows, is_named};
 ghost use Rattle.undo_log.specs.Told.{Notes, admitted_from};
 ghost use Rattle.undo_log.specs.declared.corrections.Side.TheVariants as sides;
-ghost use Rattle.shadow_graph.specs.Graph.{AddsRows, AreSmall, IsLogCovered, NamesRows};
+ghost use Rattle.shadow_graph.specs.Graph.{AddsLog, AddsRows, AreSmall, IsLogCovered, NamesRows};
 ghost use Rattle.shadow_graph.specs.Pairs.{KeepsEnds};
 ghost use Rattle.shadow_graph.specs.Tabled.{ArePairs, AreTabled, ExtendsEdges};
 
@@ -65,7 +66,8 @@ pub fn add_window(
     requires log_small { (owner : Option Actor) (target : Actor) → admitted_from log.old window.now.from owner target ≤ 4611686018427387904 }
     ensures adds { OnOk result ((told : Bool) → AddsRows window.now.at told no_rows (if counts then window_ledger window.now else no_rows)
         shadows.old shadows.new edges.old edges.new) }
-    ensures noted { OnOk result (Notes log.old log.new window.now.from sides.Admitted window.now.messages window.now.carried) }
+    ensures noted { OnOk result (AddsLog window.now.at (bulletins.Window window.now) log.old log.new) }
+    ensures noted_final { OnOk result (AddsLog window.now.at (bulletins.Final window.now) log.old log.new) }
     ensures named { OnOk result (NamesRows shadows.old.names shadows.new.names (ledger_names (window_ledger window.now))) }
     ensures fits { OnOk result (CountsFit (window_ledger window.now)) }
     ensures covered { IsLogCovered shadows.new edges.new log.new }

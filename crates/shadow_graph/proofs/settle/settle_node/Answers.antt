@@ -7,7 +7,7 @@ use Rattle.undo_log.specs.Told.{rows_of}
 use Rattle.undo_log.specs.Totals.{HaveRoom}
 use Rattle.undo_log.specs.declared.corrections.Correction.{Correction}
 use Rattle.shadow_graph.specs.Settled.{IsCovered}
-use Rattle.shadow_graph.proofs.SettleLemmas.{rows-covered, settled}
+use Rattle.shadow_graph.proofs.SettleLemmas.{rows-covered}
 use Rattle.shadow_graph.proofs.settle.settle_node.Goals as goal
 
 pub take_back_all-requires : goal.take_back_all-requires

@@ -7,7 +7,7 @@ use Rattle.undo_log.specs.declared.corrections.Side.TheVariants as sides
 use Rattle.shadow_graph.specs.Graph.{NamesRows}
 use Rattle.shadow_graph.specs.Tabled.{ArePairs}
 use Rattle.shadow_graph.proofs.AddedLemmas.{adds-grown, covered-restored, small-grown, tabled-counted, tabled-restored}
-use Rattle.shadow_graph.proofs.LogLemmas.{covered-added, edges-cut, pairs-cut, shadows-cut}
+use Rattle.shadow_graph.proofs.LogLemmas.{covered-added, edges-cut, notes-final, notes-window, pairs-cut, shadows-cut}
 use Rattle.shadow_graph.proofs.NamedLemmas.{sent-named}
 use Rattle.shadow_graph.proofs.windows.add_window.Goals as goal
 
@@ -24,6 +24,12 @@ pub returns-in-Ok-clause-adds : goal.returns-in-Ok-clause-adds
 returns-in-Ok-clause-adds c = λ told.
     let w = c.args.window.now in
     adds-grown w.at told no_rows (cond c.args.counts (window_ledger w) no_rows) c.args.shadows.now c.prepare_window.new.shadows c.count_window.new.shadows c.args.edges.now c.prepare_window.new.edges c.count_window.new.edges c.prepare_window.ensures.shadows c.prepare_window.ensures.edges (c.count_window.ensures.adds told)
+
+pub returns-in-Ok-clause-noted : goal.returns-in-Ok-clause-noted
+returns-in-Ok-clause-noted c = notes-window c.args.window.now c.args.log.now c.prepare_window.new.log c.in-Ok.ensures.noted
+
+pub returns-in-Ok-clause-noted_final : goal.returns-in-Ok-clause-noted_final
+returns-in-Ok-clause-noted_final c = notes-final c.args.window.now c.args.log.now c.prepare_window.new.log c.in-Ok.ensures.noted
 
 pub returns-in-Ok-clause-named : goal.returns-in-Ok-clause-named
 returns-in-Ok-clause-named c =
