@@ -9,7 +9,8 @@ use Rattle.shadow_graph.specs.Graph.{AddsLog, AddsRows, Graph, NamesRows, lost_i
 
 -- the rows are counted under the old lost nodes and noted in the log, their actors are named, and the cut counts the bulletin
 pub record TakesIn (o : ℕ) (b : Bulletin) (old new : Graph) : Type 0 where
-  pub rows : AddsRows o (not (has_node (lost_in old) o)) (own_rows b) (link_rows (has_node (lost_in old)) b) old.shadows new.shadows old.edges new.edges
+  pub rows : AddsRows o (not (has_node (lost_in old) o)) (own_rows b) (link_rows (has_node (lost_in old)) b)
+      old.shadows new.shadows old.edges new.edges
   pub log : AddsLog o b old.log new.log
   pub names : NamesRows old.shadows.names new.shadows.names (ledger_names (bulletin_ledger b))
   pub cut : new.cut ≡ slice_set old.cut o (slice_index old.cut o + 1)
