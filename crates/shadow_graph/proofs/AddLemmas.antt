@@ -1,23 +1,16 @@
 -- The rows of a bulletin, counted.
-use Rattle.std.proofs.Common.{◌≡◌, ◌+◌, ◌<◌, ◌^◌, ◌==◌, ℕ, Bool, true, false, cond, List, Option, Some, None, refl, sym, ◌∙◌, ap, subst, arith}
+use Rattle.std.proofs.Common.{◌≡◌, ◌<◌, ◌^◌, List, Option, Some, None, subst, arith}
 use Rattle.std.specs.List.{AllByRecursion}
-use Rattle.std.specs.Option.{option_or}
 use Rattle.crgc_ids.specs.Actor.{Actor, IsActorBelow, IsPairBelow, same_actor}
 use Rattle.crgc_ids.specs.Rising.{IsRising}
 use Rattle.crgc_ids.specs.declared.rising.ActorCount.{ActorCount}
 use Rattle.crgc_ids.specs.declared.rising.PairCount.{PairCount}
 use Rattle.crgc_ids.proofs.ActorLaws.{IsActorBelow-apart, same_actor-decides}
-use Rattle.history_model.specs.declared.records.Delta.{Delta}
 use Rattle.history_model.specs.declared.records.StateRow.{StateRow}
-use Rattle.history_model.specs.Ledgers.{Ledger, RowsRise, actor_total, delta_ledger, no_rows, pair_total}
+use Rattle.history_model.specs.Ledgers.{Ledger, RowsRise, pair_total}
 use Rattle.delta_graph.specs.Sums.{CountsFit}
-use Rattle.edge_table.specs.Table.{Edges, same_pair}
-use Rattle.edge_table.specs.declared.table.Edge.{Edge}
-use Rattle.shadow_table.specs.Shadows.{ChangesShadows, Shadows, shadow_at, with_states, with_told}
-use Rattle.shadow_table.specs.declared.table.Shadow.{Shadow}
+use Rattle.edge_table.specs.Table.{same_pair}
 use Rattle.undo_log.specs.Noted.{noted_count}
-use Rattle.shadow_graph.specs.Graph.{AddsRows, counted_shadow}
-use Rattle.shadow_graph.specs.Pairs.{ChangesEdges, KeepsEnds, edge_between, with_given, with_released}
 use Rattle.shadow_graph.specs.Tabled.{AreCounts}
 use Rattle.shadow_graph.proofs.FitLemmas.{pair-apart, rising-fits}
 use Rattle.shadow_graph.proofs.PairLemmas.{same_pair-decides}

@@ -1,9 +1,8 @@
 -- What is counted after the actors and pairs are there.
-use Rattle.std.proofs.Common.{◌≡◌, ◌+◌, ◌<◌, ◌≤◌, ◌++◌, ℕ, Bool, List, [], refl, sym, ◌∙◌, ap, subst, arith, append-nil, length}
+use Rattle.std.proofs.Common.{◌≡◌, ◌≤◌, ℕ, Bool, List, [], sym, ◌∙◌, ap, subst, arith, append-nil, length}
 use Rattle.crgc_ids.specs.Actor.{Actor}
 use Rattle.history_model.specs.Ledgers.{Ledger}
-use Rattle.edge_table.specs.Table.{Edges, edge_at}
-use Rattle.edge_table.specs.declared.table.Edge.{Edge}
+use Rattle.edge_table.specs.Table.{Edges}
 use Rattle.shadow_table.specs.Shadows.{ExtendsShadows, Shadows}
 use Rattle.shadow_table.specs.declared.table.Shadow.{Shadow}
 use Rattle.undo_log.specs.declared.corrections.Correction.{Correction}

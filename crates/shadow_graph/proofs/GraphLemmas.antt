@@ -1,6 +1,6 @@
 -- The graph stands for the fold with one bulletin more.
-use Rattle.std.proofs.Common.{◌≡◌, ◌≢◌, ◌+◌, ◌<◌, ◌≤◌, ◌||◌, ◌==◌, ◌++◌, ◌⊎◌, ◌↔◌, ℕ, Bool, true, false, cond, not, List, [], ◌∷◌, length, get_or, set, refl, sym, ◌∙◌, ap, subst, inl, inr, arith, get_or-set_other, get_or-set_same}
-use Rattle.std.proofs.lemmas.Bool.{cases_eq, false≢true, ne_eqb, eq-eqb}
+use Rattle.std.proofs.Common.{◌≡◌, ◌+◌, ◌<◌, ◌≤◌, ◌||◌, ◌++◌, ◌⊎◌, ◌↔◌, ℕ, Bool, true, false, cond, List, [], ◌∷◌, length, get_or, set, refl, sym, ◌∙◌, ap, subst, inl, inr, get_or-set_other, get_or-set_same}
+use Rattle.std.proofs.lemmas.Bool.{cases_eq, ne_eqb, eq-eqb}
 use Rattle.std.proofs.lemmas.List.{length-append}
 use Rattle.std.specs.List.{list_any}
 use Rattle.crgc_ids.specs.Actor.{Actor, same_actor}
@@ -11,19 +11,17 @@ use Rattle.crgc_ids.proofs.LostNodesLaws.{lost_nodes-grow, lost_nodes-lost}
 use Rattle.crgc_ids.proofs.NodesLaws.{has_node-from_true}
 use Rattle.history_model.specs.declared.records.Bulletin.{Bulletin}
 use Rattle.history_model.specs.Cluster.{Cluster}
-use Rattle.history_model.specs.Folds.{Fold, final_links, is_lost, links_into, lost_of}
+use Rattle.history_model.specs.Folds.{Fold, links_into, lost_of}
 use Rattle.history_model.specs.Graph.{known_actors}
 use Rattle.history_model.specs.Ledgers.{ledger_names}
-use Rattle.history_model.specs.MoreFolded.{AreLinksOf, link_rows, own_rows, with_notice}
+use Rattle.history_model.specs.MoreFolded.{AreLinksOf, with_notice}
 use Rattle.history_model.specs.Streams.{Notice}
 use Rattle.history_model.specs.Tells.{IsOrdered, Tells, bulletin_ledger}
 use Rattle.history_model.proofs.OneMoreBulletin.{known-rows, knows-notice, lost-links}
 use Rattle.history_model.proofs.RisingActors.{among-decides}
-use Rattle.edge_table.specs.Table.{Edges}
 use Rattle.membership.specs.Noted.{links_of}
-use Rattle.shadow_table.specs.Shadows.{Shadows, is_named}
-use Rattle.undo_log.specs.declared.corrections.Correction.{Correction}
-use Rattle.shadow_graph.specs.Graph.{AddsLog, AddsRows, Graph, NamesRows, lost_in}
+use Rattle.shadow_table.specs.Shadows.{is_named}
+use Rattle.shadow_graph.specs.Graph.{Graph, NamesRows, lost_in}
 use Rattle.shadow_graph.specs.Losing.{LosesNodes}
 use Rattle.shadow_graph.specs.Stands.{CountsFold, IsGraphOf, LogsFold}
 use Rattle.shadow_graph.specs.Taken.{TakesIn}

@@ -1,5 +1,5 @@
 -- What the log takes in, and what is cut back.
-use Rattle.std.proofs.Common.{◌≡◌, ◌≢◌, ◌+◌, ◌<◌, ◌==◌, ◌++◌, ◌⊎◌, ℕ, zero, suc, Bool, true, false, cond, List, [], ◌∷◌, Option, Some, None, length, take, refl, sym, ◌∙◌, ap, subst, inl, inr, arith, sum_by}
+use Rattle.std.proofs.Common.{◌≡◌, ◌+◌, ◌<◌, ◌==◌, ◌++◌, ℕ, Bool, true, false, cond, List, [], ◌∷◌, Option, Some, None, length, take, refl, sym, ◌∙◌, ap, inl, inr, arith, sum_by}
 use Rattle.std.proofs.Math.Seq.{take-append_seam}
 use Rattle.std.proofs.lemmas.Bool.{cases_eq, eq-eqb, ne_eqb}
 use Rattle.std.proofs.lemmas.List.Sums.{sum_by-cons}
@@ -16,7 +16,7 @@ use Rattle.edge_table.specs.Table.{Edges, same_pair}
 use Rattle.shadow_table.specs.Shadows.{ExtendsShadows, Shadows, first_of, is_named}
 use Rattle.shadow_table.proofs.NameLemmas.{named-kept}
 use Rattle.undo_log.specs.Noted.{noted_count}
-use Rattle.undo_log.specs.Told.{Notes, admitted_from, rows_of, told_by}
+use Rattle.undo_log.specs.Told.{Notes, admitted_from, told_by}
 use Rattle.undo_log.specs.Totals.{admitted_total, told_total}
 use Rattle.undo_log.specs.declared.corrections.Correction.{Correction}
 use Rattle.undo_log.specs.declared.corrections.Side.{Side}

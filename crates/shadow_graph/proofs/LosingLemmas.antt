@@ -1,9 +1,8 @@
 -- More nodes are lost, one after another.
-use Rattle.std.proofs.Common.{◌≡◌, ◌≢◌, ◌+◌, ◌-◌, ◌*◌, ◌<◌, ◌≤◌, ◌&&◌, ◌||◌, ◌==◌, ◌⊎◌, ℕ, Bool, true, false, cond, not, ltb, List, Option, Some, None, length, get_or, take, refl, sym, ◌∙◌, ap, subst, inl, inr, arith, count_by}
+use Rattle.std.proofs.Common.{◌≡◌, ◌≢◌, ◌+◌, ◌<◌, ◌≤◌, ◌&&◌, ◌||◌, ◌==◌, ℕ, Bool, true, false, not, ltb, List, Option, Some, None, length, get_or, refl, sym, ◌∙◌, ap, subst, inl, inr, arith}
 use Rattle.std.proofs.lemmas.Bool.{cases_eq, eq-eqb, false≢true, lt-ltb, ltb-true, ne_eqb}
-use Rattle.std.proofs.lemmas.List.{length-take}
 use Rattle.std.proofs.lemmas.List.FromFn.{get_or-range_with_len}
-use Rattle.std.proofs.lemmas.List.Sums.{count_by-le-length, count_by_more_no, count_by_more_yes}
+use Rattle.std.proofs.lemmas.List.Sums.{count_by_more_no, count_by_more_yes}
 use Rattle.crgc_ids.specs.Actor.{Actor}
 use Rattle.crgc_ids.specs.Members.{IsAmong, IsPart}
 use Rattle.crgc_ids.specs.Nodes.{has_node, nodes_below}
@@ -12,13 +11,13 @@ use Rattle.history_model.specs.Cluster.{Cluster}
 use Rattle.history_model.specs.Folds.{Fold}
 use Rattle.history_model.specs.MoreFolded.{IsLostToo}
 use Rattle.edge_table.specs.Table.{Edges}
-use Rattle.shadow_table.specs.Shadows.{Shadows, shadow_at}
+use Rattle.shadow_table.specs.Shadows.{Shadows}
 use Rattle.shadow_table.specs.declared.table.Shadow.{Shadow}
 use Rattle.undo_log.specs.Told.{admitted_from}
 use Rattle.undo_log.specs.declared.corrections.Correction.{Correction}
 use Rattle.shadow_graph.specs.Graph.{Settles}
 use Rattle.shadow_graph.specs.Losing.{Corrects, gain_before, is_newly_lost, lost_so_far}
-use Rattle.shadow_graph.specs.Pairs.{KeepsEnds, edge_between}
+use Rattle.shadow_graph.specs.Pairs.{KeepsEnds}
 use Rattle.shadow_graph.specs.Stands.{CountsFold, LogsFold}
 use Rattle.shadow_graph.proofs.StandsLemmas.{counts-moved}
 

@@ -1,5 +1,5 @@
 -- Edges by the pair of their owner and their target.
-use Rattle.std.proofs.Common.{◌≡◌, ◌+◌, ◌-◌, ◌<◌, ◌≤◌, ◌&&◌, ℕ, zero, suc, Bool, true, false, cond, List, [], ◌∷◌, Option, Some, None, length, get_or, set, min, position, refl, sym, ◌∙◌, ap, subst, arith}
+use Rattle.std.proofs.Common.{◌≡◌, ◌<◌, ℕ, zero, suc, Bool, true, false, cond, List, [], ◌∷◌, Some, None, length, get_or, set, position, refl, sym, ◌∙◌, ap, arith}
 use Rattle.std.proofs.lemmas.Bool.{lt-ltb}
 use Rattle.std.proofs.lemmas.Bool.Decides.{Decides-and, Decides-like}
 use Rattle.std.proofs.lemmas.List.{length-set}
@@ -9,7 +9,7 @@ use Rattle.crgc_ids.specs.Actor.{Actor, same_actor}
 use Rattle.crgc_ids.proofs.ActorLaws.{same_actor-decides}
 use Rattle.edge_table.specs.Table.{Edges, edge_at, no_edge, same_pair, with_edge}
 use Rattle.edge_table.specs.declared.table.Edge.{Edge}
-use Rattle.shadow_graph.specs.Pairs.{ChangesEdge, KeepsEnds, edge_between, has_pair}
+use Rattle.shadow_graph.specs.Pairs.{ChangesEdge, edge_between, has_pair}
 use Rattle.shadow_table.proofs.KeyedLemmas.{found-changed, place-within}
 
 pub same_pair-decides : (p q : Actor × Actor) → Decides (same_pair p q) (p ≡ q)

@@ -1,20 +1,14 @@
 -- The rows noted of a node, and what they speak of.
-use Rattle.std.proofs.Common.{◌≡◌, ◌+◌, ◌-◌, ◌<◌, ◌≤◌, ◌&&◌, ℕ, Bool, true, false, cond, List, [], ◌∷◌, Option, Some, None, refl, sym, ◌∙◌, ap, subst, inl, inr, arith, sum_by}
+use Rattle.std.proofs.Common.{◌≡◌, ◌+◌, ◌<◌, ◌≤◌, ◌&&◌, ℕ, Bool, true, cond, List, [], ◌∷◌, Option, Some, None, refl, sym, ◌∙◌, ap, inl, inr, arith, sum_by}
 use Rattle.std.proofs.lemmas.List.Sums.{sum_by-cons}
 use Rattle.std.specs.List.{AllByRecursion}
 use Rattle.crgc_ids.specs.Actor.{Actor, same_actor}
 use Rattle.crgc_ids.specs.Members.{IsAmong}
 use Rattle.crgc_ids.proofs.ActorLaws.{same_actor-decides}
 use Rattle.crgc_ids.proofs.MembersLaws.{all-from_members, all-member}
-use Rattle.edge_table.specs.Table.{Edges}
-use Rattle.edge_table.specs.declared.table.Edge.{Edge}
-use Rattle.shadow_table.specs.Shadows.{ChangesShadows, Shadows, with_admitted, without_told}
 use Rattle.undo_log.specs.Keys.{same_owner}
-use Rattle.undo_log.specs.Told.{admitted_from, rows_of, told_by}
 use Rattle.undo_log.specs.Totals.{HaveRoom, admitted_total, told_total}
 use Rattle.undo_log.specs.declared.corrections.Correction.{Correction}
-use Rattle.shadow_graph.specs.Graph.{Settles}
-use Rattle.shadow_graph.specs.Pairs.{ChangesEdges, edge_between, with_given, without_given}
 use Rattle.shadow_graph.specs.Settled.{IsCovered}
 
 -- the rows count something at least as often as one of them does

@@ -1,15 +1,14 @@
 -- What one more bulletin and one more lost node change in the counts of a graph that stands for a fold.
-use Rattle.std.proofs.Common.{◌≡◌, ◌≢◌, ◌+◌, ◌-◌, ◌<◌, ◌==◌, ◌++◌, ℕ, Bool, true, false, cond, not, eqb, List, [], Option, Some, None, refl, sym, ◌∙◌, ap, subst, inl, inr, arith}
+use Rattle.std.proofs.Common.{◌≡◌, ◌+◌, ◌<◌, ◌==◌, ℕ, Bool, true, false, cond, not, List, Option, Some, None, refl, sym, ◌∙◌, ap, inl, inr, arith}
 use Rattle.std.proofs.lemmas.Bool.{cases_eq, eq-eqb, ne_eqb}
 use Rattle.std.specs.Option.{option_or}
-use Rattle.crgc_ids.specs.Actor.{Actor}
 use Rattle.history_model.specs.declared.records.Bulletin.{Bulletin}
 use Rattle.history_model.specs.Cluster.{Cluster}
 use Rattle.history_model.specs.Tally.{tally}
 use Rattle.history_model.specs.Facts.{Fact, Flags, is_created, is_sent_to}
 use Rattle.history_model.specs.Folds.{Fold}
 use Rattle.history_model.specs.Graph.{own_flags}
-use Rattle.history_model.specs.Ledgers.{actor_total, pair_total, row_flags}
+use Rattle.history_model.specs.Ledgers.{actor_total, pair_total}
 use Rattle.history_model.specs.MoreFolded as folds
 use Rattle.history_model.specs.MoreFolded.{IsLostToo, link_part, link_rows, own_part, own_rows, with_notice}
 use Rattle.history_model.specs.Streams.{Notice}
@@ -18,12 +17,11 @@ use Rattle.history_model.proofs.Lists.{tally-append}
 use Rattle.history_model.proofs.OneMoreBulletin.{counts-notice, knows-notice, link-rows, own-rows, told_by-else, told_by-here}
 use Rattle.history_model.proofs.OneMoreLost.{moves-counts}
 use Rattle.edge_table.specs.Table.{Edges}
-use Rattle.shadow_table.specs.Shadows.{Shadows, flag_pair, shadow_at}
+use Rattle.shadow_table.specs.Shadows.{Shadows, flag_pair}
 use Rattle.shadow_table.specs.declared.table.Shadow.{Shadow}
-use Rattle.undo_log.specs.Told.{admitted_from, told_by}
+use Rattle.undo_log.specs.Told.{told_by}
 use Rattle.undo_log.specs.declared.corrections.Correction.{Correction}
 use Rattle.shadow_graph.specs.Graph.{AddsLog, AddsRows, Settles}
-use Rattle.shadow_graph.specs.Pairs.{edge_between}
 use Rattle.shadow_graph.specs.Stands.{CountsFold, LogsFold}
 
 flip : (b : Bool) (x y : ℕ) → cond (not b) x y ≡ cond b y x

@@ -1,5 +1,5 @@
 -- Edges by the pair of their owner and their target.
-use Rattle.std.specs.Prelude.{◌≡◌, ◌+◌, ◌-◌, ◌++◌, if◌then◌else◌, ℕ, Bool, List, length, slice_index_or}
+use Rattle.std.specs.Prelude.{◌≡◌, ◌+◌, ◌-◌, if◌then◌else◌, ℕ, Bool, List, length, slice_index_or}
 use Rattle.std.specs.List.{list_any, position_or_len}
 use Rattle.crgc_ids.specs.Actor.{Actor}
 use Rattle.edge_table.specs.Table.{Edges, edge_at, no_edge, same_pair}

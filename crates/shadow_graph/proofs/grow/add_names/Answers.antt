@@ -1,4 +1,4 @@
-use Rattle.std.proofs.Common.{◌≡◌, ◌≤◌, ◌∙◌, ap, arith, length}
+use Rattle.std.proofs.Common.{◌≤◌, ◌∙◌, ap, arith}
 use Rattle.shadow_table.specs.Shadows.{Shadows, is_named}
 use Rattle.shadow_table.proofs.NameLemmas.{named-all}
 use Rattle.shadow_graph.proofs.GrowLemmas.{tabled-named}

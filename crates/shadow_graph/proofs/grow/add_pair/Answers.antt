@@ -2,7 +2,7 @@ use Rattle.std.proofs.Common.{refl, rules, subst, sym}
 use Rattle.edge_table.specs.Table.{Edges}
 use Rattle.edge_table.specs.declared.table.Edge.{Edge}
 use Rattle.shadow_graph.specs.Tabled.{ExtendsEdges}
-use Rattle.shadow_graph.proofs.GrowLemmas.{edge-added, edges-extend-self, pair-added, pair-numbered, tabled-added}
+use Rattle.shadow_graph.proofs.GrowLemmas.{edge-added, edges-extend-self, pair-numbered, tabled-added}
 use Rattle.shadow_graph.proofs.grow.add_pair.Goals as goal
 
 pub returns-then-is_some-clause-ok : goal.returns-then-is_some-clause-ok

@@ -1,4 +1,4 @@
-use Rattle.std.proofs.Common.{◌≡◌, ◌+◌, List, take, true, subst, refl, sym, ap, ◌∙◌, ◌++◌, ◌∷◌, []}
+use Rattle.std.proofs.Common.{◌≡◌, take, true, subst, refl, sym, ap, ◌∙◌, ◌++◌, ◌∷◌, []}
 use Rattle.std.proofs.ByRecursion.{All-push}
 use Rattle.std.proofs.lemmas.List.{take_more}
 use Rattle.crgc_ids.specs.declared.rising.PairCount.{PairCount}

@@ -1,7 +1,4 @@
-use Rattle.std.proofs.Common.{◌≡◌, List, subst, sym, ap, ◌∙◌, ◌||◌}
-use Rattle.std.specs.List.{list_any}
-use Rattle.crgc_ids.specs.Actor.{Actor, same_actor}
-use Rattle.shadow_table.specs.Shadows.{is_named}
+use Rattle.std.proofs.Common.{subst}
 use Rattle.shadow_graph.specs.Graph.{NamesRows}
 use Rattle.shadow_graph.specs.Tabled.{row_names}
 use Rattle.shadow_graph.proofs.GrowLemmas.{edges-extend-more, edges-extend-self, edges-same, pairs-kept}

@@ -1,4 +1,4 @@
-use Rattle.std.proofs.Common.{◌+◌, Option, Some, None, cond, ap, arith, take, ◌&&◌}
+use Rattle.std.proofs.Common.{◌+◌, Option, Some, None, cond, ap, arith, ◌&&◌}
 use Rattle.std.proofs.lemmas.List.Sums.{sum_by-take-le}
 use Rattle.crgc_ids.specs.Actor.{Actor, same_actor}
 use Rattle.edge_table.specs.declared.table.Edge.{Edge}

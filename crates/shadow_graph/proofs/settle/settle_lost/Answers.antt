@@ -1,4 +1,4 @@
-use Rattle.std.proofs.Common.{◌≡◌, ◌∙◌, ℕ, arith, refl, subst, sym}
+use Rattle.std.proofs.Common.{◌≡◌, ◌∙◌, ℕ, arith, refl, subst}
 use Rattle.shadow_graph.specs.Losing.{lost_so_far}
 use Rattle.shadow_graph.specs.Stands.{CountsFold}
 use Rattle.shadow_graph.proofs.LosingLemmas.{IsTurn, corrects-none, first-counts, keeps-more, keeps-self, last-counts, turn-corrects, turn-counts}

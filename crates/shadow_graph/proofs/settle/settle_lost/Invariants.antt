@@ -1,4 +1,4 @@
-use Rattle.std.proofs.Common.{◌≡◌, ◌≤◌, ◌<◌, true, ℕ}
+use Rattle.std.proofs.Common.{◌≡◌, ◌<◌, true, ℕ}
 use Rattle.crgc_ids.specs.Nodes.{has_node}
 use Rattle.history_model.specs.Cluster.{Cluster}
 use Rattle.history_model.specs.Folds.{Fold}

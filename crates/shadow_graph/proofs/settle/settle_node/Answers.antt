@@ -1,11 +1,7 @@
-use Rattle.std.proofs.Common.{◌≡◌, ◌+◌, List, Option, Some, None, subst, sym, ap, arith, ◌∙◌}
+use Rattle.std.proofs.Common.{List, subst, sym}
 use Rattle.std.specs.List.{AllByRecursion}
 use Rattle.crgc_ids.specs.Actor.{Actor}
-use Rattle.edge_table.specs.declared.table.Edge.{Edge}
-use Rattle.shadow_table.specs.declared.table.Shadow.{Shadow}
 use Rattle.undo_log.specs.Told.{rows_of}
-use Rattle.undo_log.specs.Totals.{HaveRoom}
-use Rattle.undo_log.specs.declared.corrections.Correction.{Correction}
 use Rattle.shadow_graph.specs.Settled.{IsCovered}
 use Rattle.shadow_graph.proofs.SettleLemmas.{rows-covered}
 use Rattle.shadow_graph.proofs.settle.settle_node.Goals as goal
