@@ -62,7 +62,8 @@ impl EdgeTable {
 
     /// How many edges there are.
     pub fn edge_count(&self) -> u32
-        ensures { result ≡ length self.now.edges }
+        ensures value { result ≡ length self.now.edges }
+        ensures long { length self.now.edges ≡ length self.now.pairs }
     {
         self.edges.len() as u32
     }
@@ -97,6 +98,7 @@ impl EdgeTable {
         ensures number { result ≡ number_at self.now owner target }
         ensures within { IfSome result (λ number. number < length self.now.edges) }
         ensures distinct { IsDistinct same_pair self.now.pairs }
+        ensures long { length self.now.edges ≡ length self.now.pairs }
     {
         match self.pairs.get_index_of(&(owner, target)) {
             Some(number) => Some(number as u32),

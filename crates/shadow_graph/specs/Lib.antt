@@ -1,0 +1,7 @@
+pub mod Pairs
+pub mod Tabled
+pub mod Settled
+pub mod Graph
+pub mod Stands
+pub mod Losing
+pub mod Taken

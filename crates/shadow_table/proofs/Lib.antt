@@ -1,0 +1,4 @@
+pub mod KeyedLemmas
+pub mod RowLemmas
+pub mod ShadowLemmas
+pub mod NameLemmas

@@ -1,0 +1,6 @@
+//! Shadows: what a collector knows of each actor that was named to it, in the order of naming.
+#![tactic(auto)]
+
+mod table;
+
+pub use table::{Shadow, ShadowTable};

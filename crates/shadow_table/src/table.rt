@@ -1,0 +1,244 @@
+//! Shadows by actor and by place.
+ghost use Rattle.std.specs.Prelude.{◌≡◌, ◌+◌, ◌<◌, ◌≤◌, ◌^◌, true, IsTrue, OnErr, OnOk, IfSome, length, map, slice_get, slice_index_or};
+ghost use Rattle.std.specs.Option.{is_some};
+ghost use Rattle.std.specs.List.{AllByRecursion};
+ghost use Rattle.crgc_ids.specs.Actor.{Actor};
+ghost use Rattle.history_model.specs.Ledgers.{actor_total, received_total};
+ghost use Rattle.shadow_table.specs.Shadows.{ChangesShadow, ChangesShadows, ExtendsShadows, as_dropped, blank, first_of, is_named, no_shadows};
+ghost use Rattle.shadow_table.specs.Shadows.{place_in, shadow_at, with_admitted, with_name, with_names, with_state, with_states, with_told, without_told};
+
+use crgc_ids::{ActorCount, ActorId, NoMemory, NodeId};
+use history_model::StateRow;
+use indexmap::IndexSet;
+use std::alloc::Global;
+use std::marker::Model;
+
+/// What is known of one actor: the messages that it took, those to it that were told and those that were admitted, the flags
+/// (busy, root) of its last own entry, and whether it was dropped.
+#[derive(Clone, Copy, PartialEq, Eq, Debug)]
+pub struct Shadow {
+    pub received: u64,
+    pub told: u64,
+    pub admitted: u64,
+    pub flags: Option<(bool, bool)>,
+    pub dropped: bool,
+}
+
+/// The shadows of the actors that were named, in the order of naming: an actor's number in it is its place. Contracts see
+/// the actors and the shadows.
+#[derive(Drop)]
+pub struct ShadowTable {
+    names: IndexSet<ActorId>,
+    shadows: Vec<Shadow>,
+}
+
+impl Model for ShadowTable {
+    ghost use Rattle.std.specs.Prelude.{◌≡◌, ◌<◌, ◌^◌, length};
+    ghost use Rattle.shadow_table.specs.Shadows.{Shadows};
+
+    ghost Value = { Shadows };
+
+    ghost view = { λ t. record { names = t.names.keys; shadows = t.shadows.items } };
+
+    ghost invariant = { λ t. (length t.shadows.items ≡ length t.names.keys) × (length t.shadows.items < 2 ^ 32) };
+}
+
+impl ShadowTable {
+    /// No actor is named.
+    pub fn new(alloc: Global) -> ShadowTable
+        ensures { result ≡ no_shadows }
+    {
+        ShadowTable {
+            names: IndexSet::new(alloc),
+            shadows: Vec::new(alloc),
+        }
+    }
+
+    /// How many actors were named.
+    pub fn place_count(&self) -> u32
+        ensures value { result ≡ length self.now.names }
+        ensures shadows { length self.now.shadows ≡ length self.now.names }
+    {
+        self.shadows.len() as u32
+    }
+
+    /// The place of the actor; None exactly where it was not named. Constant time on average.
+    pub fn place_of(&self, actor: ActorId) -> Option<u32>
+        ensures place { IfSome result (λ place. place ≡ place_in self.now.names actor) }
+        ensures within { IfSome result (λ place. place < length self.now.names) }
+        ensures found { is_some result ≡ is_named self.now.names actor }
+    {
+        match self.names.get_index_of(&actor) {
+            Some(place) => Some(place as u32),
+            None => None,
+        }
+    }
+
+    /// The actor at the place; None exactly at `place_count` and above.
+    pub fn actor_at(&self, place: u32) -> Option<ActorId>
+        ensures { result ≡ slice_get self.now.names place }
+    {
+        self.names.get_index(place as usize).copied()
+    }
+
+    /// The shadow at the place.
+    pub fn shadow(&self, place: u32) -> Shadow
+        requires { place < length self.now.names }
+        ensures { result ≡ slice_index_or self.now.shadows place blank }
+    {
+        self.shadows[place as usize]
+    }
+
+    /// The place of an actor that was named.
+    fn place(&self, actor: ActorId) -> usize
+        requires { is_named self.now.names actor ≡ true }
+        ensures place { result ≡ place_in self.now.names actor }
+        ensures within { result < length self.now.names }
+    {
+        self.names.get_index_of(&actor).unwrap()
+    }
+
+    /// So many more messages to the actor are told.
+    pub fn tell(&mut self, actor: ActorId, count: u64)
+        requires named { is_named self.old.names actor ≡ true }
+        requires fits { (shadow_at self.old actor).told + count < 2 ^ 64 }
+        ensures { ChangesShadow self.old self.new actor (with_told count) }
+    {
+        let place = self.place(actor);
+        self.shadows[place].told += count;
+    }
+
+    /// So many more messages to the actor are admitted.
+    pub fn admit(&mut self, actor: ActorId, count: u64)
+        requires named { is_named self.old.names actor ≡ true }
+        requires fits { (shadow_at self.old actor).admitted + count < 2 ^ 64 }
+        ensures { ChangesShadow self.old self.new actor (with_admitted count) }
+    {
+        let place = self.place(actor);
+        self.shadows[place].admitted += count;
+    }
+
+    /// So many of the messages to the actor that were told are taken back, or all where fewer were.
+    pub fn take_back(&mut self, actor: ActorId, count: u64)
+        requires { is_named self.old.names actor ≡ true }
+        ensures { ChangesShadow self.old self.new actor (without_told count) }
+    {
+        let place = self.place(actor);
+        let shadow = &mut self.shadows[place];
+        shadow.told = shadow.told.saturating_sub(count);
+    }
+
+    /// The actor is dropped. What is told of it later is counted all the same.
+    pub fn drop_actor(&mut self, actor: ActorId)
+        requires { is_named self.old.names actor ≡ true }
+        ensures { ChangesShadow self.old self.new actor as_dropped }
+    {
+        let place = self.place(actor);
+        self.shadows[place].dropped = true;
+    }
+
+    /// A node's state of the actor: so many more messages taken and, where the node is the actor's own, its flags.
+    fn note_state(&mut self, node: NodeId, row: StateRow)
+        requires named { is_named self.old.names row.actor ≡ true }
+        requires fits { (shadow_at self.old row.actor).received + row.received < 2 ^ 64 }
+        ensures { ChangesShadow self.old self.new row.actor (with_state node row) }
+    {
+        let place = self.place(row.actor);
+        self.shadows[place] = with_state(node, row, self.shadows[place]);
+    }
+
+    /// The messages that the rows count are told. Linear time in the number of rows, on average.
+    pub fn tell_all(&mut self, rows: &[ActorCount])
+        requires named { AllByRecursion (λ r. is_named self.old.names r.actor ≡ true) rows.now }
+        requires fits { (a : Actor) → (shadow_at self.old a).told + actor_total a rows.now < 2 ^ 64 }
+        ensures { ChangesShadows self.old self.new (λ a s. with_told (actor_total a rows.now) s) }
+    {
+        for row in rows {
+            self.tell(row.actor, u64::from(row.count));
+        }
+    }
+
+    /// The messages that the rows count are admitted. Linear time in the number of rows, on average.
+    pub fn admit_all(&mut self, rows: &[ActorCount])
+        requires named { AllByRecursion (λ r. is_named self.old.names r.actor ≡ true) rows.now }
+        requires fits { (a : Actor) → (shadow_at self.old a).admitted + actor_total a rows.now < 2 ^ 64 }
+        ensures { ChangesShadows self.old self.new (λ a s. with_admitted (actor_total a rows.now) s) }
+    {
+        for row in rows {
+            self.admit(row.actor, u64::from(row.count));
+        }
+    }
+
+    /// The states that the node tells: messages taken, and of the node's own actors the flags, of which the last stand. Linear
+    /// time in the number of rows, on average.
+    pub fn note_states(&mut self, node: NodeId, rows: &[StateRow])
+        requires named { AllByRecursion (λ r. is_named self.old.names r.actor ≡ true) rows.now }
+        requires fits { (a : Actor) → (shadow_at self.old a).received + received_total a rows.now < 2 ^ 64 }
+        ensures { ChangesShadows self.old self.new (λ a s. with_states node a rows.now s) }
+    {
+        for row in rows {
+            self.note_state(node, *row);
+        }
+    }
+
+    /// The actor is named, if it was not: its place is then the last. After `NoMemory`, which comes too where there are
+    /// 2^32 - 1 places, all is as before. Amortized constant time, on average.
+    pub fn name(&mut self, actor: ActorId) -> Result<(), NoMemory>
+        ensures ok { OnOk result (self.new ≡ with_name self.old actor) }
+        ensures err { OnErr result (self.new ≡ self.old) }
+        ensures long { length self.old.shadows ≡ length self.old.names }
+    {
+        if self.names.contains(&actor) {
+            return Ok(());
+        }
+        if self.shadows.len() >= 4_294_967_295 {
+            return Err(NoMemory);
+        }
+        if self.shadows.reserve(1).is_err() {
+            return Err(NoMemory);
+        }
+        if self.names.insert(actor).is_err() {
+            return Err(NoMemory);
+        }
+        self.shadows.push_reserved(Shadow {
+            received: 0,
+            told: 0,
+            admitted: 0,
+            flags: None,
+            dropped: false,
+        });
+        Ok(())
+    }
+
+    /// The actors are named, one after another. After `NoMemory` some of them may be. Linear time in their number, on average.
+    pub fn name_all(&mut self, actors: &[ActorId]) -> Result<(), NoMemory>
+        ensures ok { OnOk result (self.new ≡ with_names self.old actors.now) }
+        ensures extends { ExtendsShadows self.old self.new }
+    {
+        for actor in actors {
+            self.name(*actor)?;
+        }
+        Ok(())
+    }
+
+    /// Only the first so many places stay. Linear time in the number of the others.
+    pub fn cut_back(&mut self, places: u32)
+        ensures { self.new ≡ first_of places self.old }
+    {
+        self.names.truncate(places as usize);
+        self.shadows.truncate(places as usize);
+    }
+}
+
+/// The shadow with a node's state row of its actor.
+fn with_state(node: NodeId, row: StateRow, shadow: Shadow) -> Shadow
+    requires { shadow.received + row.received < 2 ^ 64 }
+    ensures { result ≡ with_state node row shadow }
+{
+    let mut noted = shadow;
+    noted.received += u64::from(row.received);
+    if row.actor.node() == node {
+        noted.flags = Some((row.busy, row.root));
+    }
+    noted
+}
