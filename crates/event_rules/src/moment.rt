@@ -67,11 +67,12 @@ pub trait Moment {
         requires { node < (story self.now).cluster.nodes }
         ensures { result ≡ length (stream (story self.now).cluster node (story self.now).past) };
 
-    /// Whether `at` has removed `from`; the two are different nodes of the cluster.
+    /// Whether `at`, which is up, has removed `from`; the two are different nodes of the cluster.
     fn is_closed(&self, from: NodeId, at: NodeId) -> bool
         requires from { from < (story self.now).cluster.nodes }
         requires at { at < (story self.now).cluster.nodes }
         requires apart { from ≢ at }
+        requires up { is_up at (story self.now).past ≡ true }
         ensures { result ≡ is_closed from at (story self.now).past };
 
     /// Whether `at` admitted a message from `from` since the last window of their link, which leads between different nodes

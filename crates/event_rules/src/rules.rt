@@ -9,8 +9,8 @@ use crate::nodes::{of_hand, of_node, of_publish};
 use crate::sends::of_send;
 use history_model::{Event, Rule};
 
-/// The first rule that the event breaks at the moment; None exactly where it is legal. It asks at most seven times, and a
-/// send twice more for each reference.
+/// The first rule that the event breaks at the moment; None exactly where it is legal. It asks at most eight times; a
+/// send five times, and twice for each reference.
 pub fn refusal<M: Moment>(moment: &M, event: &Event) -> Option<Rule>
     ensures { result ≡ legal.refusal (M.story moment.now).cluster event.now (M.story moment.now).past }
 {

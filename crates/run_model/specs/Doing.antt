@@ -4,7 +4,7 @@ use Rattle.std.specs.Prelude.{ℕ, ◌==◌, ◌&&◌, Bool, true, false, not, n
 use Rattle.std.specs.List.{list_all}
 use Rattle.crgc_ids.specs.Actor.{Actor, same_actor}
 use Rattle.history_model.specs.declared.events.Event.{Event}
-use Rattle.history_model.specs.declared.events.Event.TheVariants.{Seed, Tie, Wake, Take, Spawn, Send, Drop, Retire, Rest}
+use Rattle.history_model.specs.declared.events.Event.TheVariants.{Seed, Tie, Wake, Take, Spawn, Send, Drop, Retire, Rest, Flush, Publish, Window, Admit, Lose, Repeat, Crash, Remove, Hand, Sweep}
 use Rattle.history_model.specs.Cluster.{Cluster, newborn}
 use Rattle.history_model.specs.Messages.{Message, waiting}
 use Rattle.history_model.specs.State.{is_root}
@@ -133,7 +133,19 @@ doing s a (Spawn b ∷ p) =
 doing s a (Send b t refs ∷ p) = elim (same_actor b a) as (λ _. Doing) [ true ↦ acts_on None (doing s a p) | false ↦ doing s a p ]
 doing s a (Drop b t ∷ p) = elim (same_actor b a) as (λ _. Doing) [ true ↦ acts_on None (doing s a p) | false ↦ doing s a p ]
 doing s a (Retire b ∷ p) = elim (same_actor b a) as (λ _. Doing) [ true ↦ acts_on None (doing s a p) | false ↦ doing s a p ]
-doing s a (_ ∷ p) = doing s a p
+doing s a (Seed n ∷ p) = doing s a p
+doing s a (Tie b t ∷ p) = doing s a p
+doing s a (Rest b ∷ p) = doing s a p
+doing s a (Flush b ∷ p) = doing s a p
+doing s a (Publish n ∷ p) = doing s a p
+doing s a (Window d f ∷ p) = doing s a p
+doing s a (Admit f d k ∷ p) = doing s a p
+doing s a (Lose f d k ∷ p) = doing s a p
+doing s a (Repeat f d k ∷ p) = doing s a p
+doing s a (Crash n ∷ p) = doing s a p
+doing s a (Remove m n ∷ p) = doing s a p
+doing s a (Hand m o k ∷ p) = doing s a p
+doing s a (Sweep m ∷ p) = doing s a p
 
 -- the event of an act; where none is due, the turn rests
 abbrev pub event_of : Actor → Option Act → Event
