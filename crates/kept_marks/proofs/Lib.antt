@@ -1,0 +1,4 @@
+pub mod PlaceSetLemmas
+pub mod KeptLemmas
+pub mod StepLemmas
+pub mod SweepLemmas
