@@ -1,5 +1,5 @@
 -- Marks that are kept, each with what it stands on.
-use Rattle.std.specs.Prelude.{ℕ, ◌≡◌, ◌≢◌, ◌⊎◌, ◌<◌, ◌≤◌, ◌↔◌, ◌+◌, ◌-◌, ◌*◌, Bool, true, false, List, Option, None, Some, length, count_by, slice_index_or}
+use Rattle.std.specs.Prelude.{ℕ, ◌≡◌, ◌≢◌, ◌⊎◌, ◌<◌, ◌≤◌, ◌↔◌, ◌+◌, ◌-◌, ◌*◌, Bool, true, false, List, [], Option, None, Some, length, count_by, slice_index_or}
 use Rattle.std.specs.Option.{is_some}
 use Rattle.place_marks.specs.Graph.{Graph, IsGraph, IsReached, IsStep}
 use Rattle.kept_marks.specs.PlaceSet.{count_of, has_place}
@@ -71,6 +71,30 @@ pub record IsSwept (g : Graph) (old new : Kept) : Type 0 where
   pub touched : IsEmpty new.touched
   pub queued : IsEmpty new.queued
   pub watched : (a : ℕ) → IsWatched old a → (is_supported new.supports a ≡ true) ⊎ (has_place new.fallen a ≡ true)
+
+-- nothing is marked, and no place is in a set
+abbrev pub nothing_kept : Kept
+nothing_kept = record { supports = []; touched = []; queued = []; fallen = [] }
+
+-- where the graph changes, the mark of a is left as it was: a start that supports itself still is one, the edge from its owner
+-- is still positive; or a is not marked, and became no start, and no edge from a marked place became positive
+pub record IsSpared (old new : Graph) (supports : List (Option ℕ)) (a : ℕ) : Type 0 where
+  pub start : support_of supports a ≡ Some a → old.is_start a ≡ true → new.is_start a ≡ true
+  pub owner : (b : ℕ) → support_of supports a ≡ Some b → IsStep old b a → IsStep new b a
+  pub unmarked : support_of supports a ≡ None → old.is_start a ≡ false → new.is_start a ≡ false
+  pub others : (b : ℕ) → support_of supports a ≡ None → is_supported supports b ≡ true → IsStep new b a → IsStep old b a
+
+-- the graph gets places, and starts and edges change; beside it more places are touched: each new one, and each that the
+-- change does not spare
+pub record IsTouched (old new : Graph) (before after : Kept) : Type 0 where
+  pub places : old.places ≤ new.places
+  pub room : new.places ≤ length after.supports
+  pub supports : (a : ℕ) → support_of after.supports a ≡ support_of before.supports a
+  pub queued : (a : ℕ) → has_place after.queued a ≡ has_place before.queued a
+  pub touched : (a : ℕ) → has_place before.touched a ≡ true → has_place after.touched a ≡ true
+  pub within : (a : ℕ) → has_place after.touched a ≡ true → a < new.places
+  pub added : (a : ℕ) → old.places ≤ a → a < new.places → has_place after.touched a ≡ true
+  pub spared : (a : ℕ) → a < old.places → has_place after.touched a ≡ false → IsSpared old new before.supports a
 
 -- each set has room for each place
 pub record HasRooms (k : Kept) : Type 0 where

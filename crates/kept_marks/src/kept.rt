@@ -1,10 +1,11 @@
 //! Marks that are kept from sweep to sweep.
-ghost use Rattle.std.specs.Prelude.{◌≡◌, ◌<◌, ◌≤◌, ℕ, true, false, [], IfNone, IfSome, OnOk, length, slice_set};
+ghost use Rattle.std.specs.Prelude.{◌≡◌, ◌<◌, ◌≤◌, ℕ, true, false, [], Some, IfNone, IfSome, OnOk, length, slice_set};
+ghost use Rattle.place_marks.specs.Graph.{Graph};
 ghost use Rattle.kept_marks.specs.PlaceSet.{has_place};
-ghost use Rattle.kept_marks.specs.Kept.{IsEmpty, IsKept, IsSame, IsSwept, KeepsWatch, check_work, is_supported, settle_work};
+ghost use Rattle.kept_marks.specs.Kept.{IsEmpty, IsKept, IsSame, IsSwept, KeepsWatch, check_work, is_supported, settle_work, support_of};
 
 use crate::place_set::PlaceSet;
-use crate::steps::{find_support, put_targets, stands};
+use crate::steps::{find_support, put_all, put_targets, stands};
 use crgc_ids::NoMemory;
 use place_marks::PlaceGraph;
 use std::alloc::Global;
@@ -53,8 +54,9 @@ impl KeptMarks {
     /// places.
     pub fn reserve(&mut self, places: u32) -> Result<(), NoMemory>
         ensures room { OnOk result (places ≤ length self.new.supports) }
-        ensures kept { length self.old.supports ≤ length self.new.supports }
+        ensures grown { length self.old.supports ≤ length self.new.supports }
         ensures same { IsSame self.old self.new }
+        ensures kept { (g : Graph) → IsKept g self.old → IsKept g self.new }
     {
         if self.touched.reserve(places).is_err() {
             return Err(NoMemory);
@@ -92,10 +94,22 @@ impl KeptMarks {
         }
     }
 
+    /// What the mark of the place stands on: the place itself where it is marked as a start, else an owner; None where it is not
+    /// marked. A place of which no change spares the mark has to be touched.
+    pub fn support(&self, place: u32) -> Option<u32>
+        ensures { result ≡ support_of self.now.supports place }
+    {
+        match self.supports.get(place as usize) {
+            Some(support) => *support,
+            None => None,
+        }
+    }
+
     /// The next sweep looks at the place. It takes no memory. Constant time.
     pub fn touch(&mut self, place: u32)
         requires { place < length self.old.supports }
-        ensures { self.new ≡ record self.old { touched = slice_set self.old.touched place true } }
+        ensures value { self.new ≡ record self.old { touched = slice_set self.old.touched place true } }
+        ensures kept { (g : Graph) → place < g.places → IsKept g self.old → IsKept g self.new }
     {
         self.touched.put(place);
     }
@@ -106,8 +120,25 @@ impl KeptMarks {
         ensures rest { IfSome result (λ place. self.new ≡ record self.old { fallen = slice_set self.old.fallen place false }) }
         ensures none { IfNone result ((a : ℕ) → has_place self.old.fallen a ≡ false) }
         ensures same { IfNone result (self.new ≡ self.old) }
+        ensures kept { (g : Graph) → IsKept g self.old → IsKept g self.new }
     {
         self.fallen.pop()
+    }
+
+    /// All marks are taken away and each place of the graph is touched, as over a new graph. It takes no memory. Linear time in
+    /// the room.
+    pub fn restart<G: PlaceGraph>(&mut self, graph: &G)
+        requires room { (G.graph graph.now).places ≤ length self.old.supports }
+        requires marked { (a b : ℕ) → support_of self.old.supports a ≡ Some b → a < (G.graph graph.now).places }
+        requires touched { (a : ℕ) → has_place self.old.touched a ≡ true → a < (G.graph graph.now).places }
+        requires settled { IsEmpty self.old.queued }
+        ensures kept { IsKept (G.graph graph.now) self.new }
+        ensures watched { KeepsWatch self.old self.new }
+        ensures room { length self.new.supports ≡ length self.old.supports }
+    {
+        let places = graph.place_count();
+        self.supports.fill(None);
+        put_all(&mut self.touched, places);
     }
 
     /// Exactly what is reached is marked, and each place that lost its mark, or was touched and found none, is fallen. It takes
@@ -117,6 +148,7 @@ impl KeptMarks {
         requires { IsKept (G.graph graph.now) self.old }
         ensures kept { IsKept (G.graph graph.now) self.new }
         ensures swept { IsSwept (G.graph graph.now) self.old self.new }
+        ensures room { length self.new.supports ≡ length self.old.supports }
     {
         self.check(graph);
         self.settle(graph);
@@ -127,6 +159,7 @@ impl KeptMarks {
         requires { IsKept (G.graph graph.now) self.old }
         ensures kept { IsKept (G.graph graph.now) self.new }
         ensures watched { KeepsWatch self.old self.new }
+        ensures room { length self.new.supports ≡ length self.old.supports }
         ensures clean { IsEmpty self.new.touched }
     {
         while self.check_next(graph) {}
@@ -138,6 +171,7 @@ impl KeptMarks {
         requires { IsKept (G.graph graph.now) self.old }
         ensures kept { IsKept (G.graph graph.now) self.new }
         ensures watched { KeepsWatch self.old self.new }
+        ensures room { length self.new.supports ≡ length self.old.supports }
         ensures done { result ≡ false → IsEmpty self.new.touched }
         ensures less { result ≡ true → check_work self.new < check_work self.old }
     {
@@ -170,6 +204,7 @@ impl KeptMarks {
         requires clean { IsEmpty self.old.touched }
         ensures kept { IsKept (G.graph graph.now) self.new }
         ensures watched { KeepsWatch self.old self.new }
+        ensures room { length self.new.supports ≡ length self.old.supports }
         ensures clean { IsEmpty self.new.touched }
         ensures settled { IsEmpty self.new.queued }
     {
@@ -183,6 +218,7 @@ impl KeptMarks {
         requires clean { IsEmpty self.old.touched }
         ensures kept { IsKept (G.graph graph.now) self.new }
         ensures watched { KeepsWatch self.old self.new }
+        ensures room { length self.new.supports ≡ length self.old.supports }
         ensures clean { IsEmpty self.new.touched }
         ensures done { result ≡ false → IsEmpty self.new.queued }
         ensures less { result ≡ true → settle_work self.new < settle_work self.old }

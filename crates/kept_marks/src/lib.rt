@@ -2,7 +2,11 @@
 #![tactic(auto)]
 
 mod kept;
+pub mod laws;
 mod place_set;
 mod steps;
 
 pub use kept::KeptMarks;
+
+#[cfg(test)]
+mod tests;

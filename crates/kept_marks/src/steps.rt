@@ -1,6 +1,7 @@
 //! What one place stands on, and what hangs on it.
-ghost use Rattle.std.specs.Prelude.{◌≡◌, ◌<◌, ◌≤◌, ◌↔◌, ℕ, true, None, Some, IfNone, IfSome, IsTrue, length};
+ghost use Rattle.std.specs.Prelude.{◌≡◌, ◌⊎◌, ◌<◌, ◌≤◌, ◌↔◌, ℕ, true, None, Some, IfNone, IfSome, IsTrue, length};
 ghost use Rattle.place_marks.specs.Graph.{IsGraph};
+ghost use Rattle.kept_marks.specs.PlaceSet.{has_place};
 ghost use Rattle.kept_marks.specs.Kept.{AddsTarget, AddsTargets, IsSupport, IsUnsupported, support_of};
 
 use crate::place_set::PlaceSet;
@@ -75,10 +76,23 @@ fn put_target(supports: &[Option<u32>], set: &mut PlaceSet, target: Option<u32>,
     requires set { length supports.now ≤ length set.old }
     ensures { AddsTarget supports.now set.old set.new target on }
 {
-    let Some(place) = target else {
+    let Some(found) = target else {
         return;
     };
-    if is_same(supports[place as usize], on) {
+    if is_same(supports[found as usize], on) {
+        set.put(found);
+    }
+}
+
+/// The places below the count are in the set too.
+pub fn put_all(set: &mut PlaceSet, count: u32)
+    requires { count ≤ length set.old }
+    ensures room { length set.new ≡ length set.old }
+    ensures kept { (a : ℕ) → has_place set.old a ≡ true → has_place set.new a ≡ true }
+    ensures added { (a : ℕ) → a < count → has_place set.new a ≡ true }
+    ensures others { (a : ℕ) → has_place set.new a ≡ true → (has_place set.old a ≡ true) ⊎ (a < count) }
+{
+    for place in 0..count {
         set.put(place);
     }
 }
