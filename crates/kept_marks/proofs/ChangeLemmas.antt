@@ -6,7 +6,7 @@ use Rattle.std.specs.Option.{is_some}
 use Rattle.place_marks.specs.Graph.{Graph, IsGraph}
 use Rattle.kept_marks.specs.PlaceSet.{has_place}
 use Rattle.kept_marks.specs.Kept.{IsEmpty, IsKept, IsSame, IsSpared, IsTouched, KeepsWatch, Kept, Stands, is_supported, nothing_kept, support_of}
-use Rattle.kept_marks.proofs.StepLemmas.{in-at, in-other, kept_of, shrink}
+use Rattle.kept_marks.proofs.StepLemmas.{in-at, in-other, kept_of, shrink, the-support}
 
 -- the same supports, by place
 stands-same : (g : Graph) (s s' : List (Option ℕ)) (a : ℕ) → ((b : ℕ) → support_of s' b ≡ support_of s b) → Stands g s a → Stands g s' a
@@ -20,10 +20,6 @@ stands-same g s s' a same stands =
           let before = stands.none (sym (same a) ∙ h) in
           record { start = before.start; owners = λ b there step. ap is_some (same b) ∙ before.owners b there step };
     }
-
-the-support : (o : Option ℕ) → is_some o ≡ true → (b : ℕ) × (o ≡ Some b)
-the-support None h = absurd (false≢true h)
-the-support (Some b) h = (b, refl)
 
 -- a mark that the change spares stands over the new graph
 stands-spared : (old new : Graph) (s : List (Option ℕ)) (a : ℕ) → ((b c : ℕ) → support_of s b ≡ Some c → b < old.places) → IsSpared old new s a → Stands old s a → Stands new s a

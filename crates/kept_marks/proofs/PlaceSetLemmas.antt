@@ -1,11 +1,11 @@
 -- The queue of a set has each of its places once.
-use Rattle.std.proofs.Common.{◌≡◌, ◌≢◌, ◌<◌, ◌≤◌, ◌+◌, ℕ, Bool, true, false, cond, List, [], ◌∷◌, ◌++◌, length, get_or, take, refl, sym, ◌∙◌, ap, subst, inl, inr, suc, arith, get_or-set_other, get_or-set_same}
+use Rattle.std.proofs.Common.{◌≡◌, ◌≢◌, ◌<◌, ◌≤◌, ◌+◌, ℕ, Bool, true, false, cond, List, [], ◌∷◌, ◌++◌, length, take, refl, sym, ◌∙◌, ap, subst, inl, inr, suc, arith, get_or-set_other, get_or-set_same}
 use Rattle.std.proofs.Math.ListN.{set, length-set, replicate}
 use Rattle.std.proofs.lemmas.Bool.{cases_eq, cases_lt, false≢true}
 use Rattle.std.proofs.lemmas.List.{get_or_past, set-append_left, set-set, set_comm, take_all}
 use Rattle.std.proofs.lemmas.List.Recursion.{is_count_by}
-use Rattle.std.proofs.lemmas.List.Sums.{count_by-le-length, sum_by-set}
-use Rattle.place_marks.proofs.OrderLemmas.{resized-at}
+use Rattle.std.proofs.lemmas.List.Sums.{sum_by-set}
+use Rattle.place_marks.proofs.OrderLemmas.{count-below, resized-at}
 use Rattle.kept_marks.specs.PlaceSet.{AreListed, count_of, has_place}
 
 -- a place of the set is within its room
@@ -17,20 +17,13 @@ place-inside flags p h = elim (cases_lt p (length flags)) [
 
 -- ---- counts
 
--- one place less, and one more
+-- one place less
 pub count-out : (flags : List Bool) (p : ℕ) → has_place flags p ≡ true → count_of (set flags p false) + 1 ≡ count_of flags
 count-out flags p h =
     plain (count_of (set flags p false)) (count_of flags) (cond (has_place flags p) 1 0) (ap (λ f. cond f 1 0) h) (sum_by-set (λ f. cond f 1 0) flags p false false (place-inside flags p h))
   where
     plain : (x y n : ℕ) → n ≡ 1 → x + n ≡ y + 0 → x + 1 ≡ y
     plain x y n one more = omega arith
-
-pub count-in : (flags : List Bool) (p : ℕ) → p < length flags → has_place flags p ≡ false → count_of (set flags p true) ≡ count_of flags + 1
-count-in flags p inside free =
-    plain (count_of (set flags p true)) (count_of flags) (cond (has_place flags p) 1 0) (ap (λ f. cond f 1 0) free) (sum_by-set (λ f. cond f 1 0) flags p true false inside)
-  where
-    plain : (x y n : ℕ) → n ≡ 0 → x + n ≡ y + 1 → x ≡ y + 1
-    plain x y n none more = omega arith
 
 -- a set without a place has none
 count-none : (flags : List Bool) → ((p : ℕ) → has_place flags p ≡ false) → count_of flags ≡ 0
@@ -57,9 +50,7 @@ listed-count flags (p ∷ queue) listed =
 pub listed-below : (flags : List Bool) (queue : List ℕ) (p : ℕ) → AreListed flags queue → p < length flags → has_place flags p ≡ false → length queue < length flags
 listed-below flags queue p listed inside free =
     let long = listed-count flags queue listed in
-    let more = count-in flags p inside free in
-    let few = count_by-le-length (λ f. f) (set flags p true) in
-    let same = length-set flags p true in
+    let fewer = count-below flags p inside free in
     omega arith
 
 -- ---- the queue
@@ -81,10 +72,6 @@ listed-put flags (x ∷ queue) p listed inside free =
       subst (λ fs. AreListed fs (queue ++ p ∷ [])) (set_comm flags x p false true other)
           (listed-put (set flags x false) queue p listed.1 (omega arith) (get_or-set_other flags x p false false other' ∙ free)),
     )
-
--- what a read gave, whatever stands for a place past the end
-pub read-false : (flags : List Bool) (p : ℕ) (v : Bool) → v ≡ get_or flags p v → v ≡ false → has_place flags p ≡ false
-read-false flags p v read free = subst (λ w. get_or flags p w ≡ w) free (sym read)
 
 -- more room, after `resize`
 pub listed-resized : (flags new : List Bool) (queue : List ℕ) (n k : ℕ) (ok : Bool) → length flags ≤ n → AreListed flags queue → new ≡ cond ok (take n flags ++ replicate k false) flags → AreListed new queue

@@ -1,5 +1,5 @@
 -- One step of a sweep keeps what is kept.
-use Rattle.std.proofs.Common.{◌≡◌, ◌≢◌, ◌<◌, ℕ, Bool, true, false, cond, List, Option, None, Some, length, get_or, sym, ◌∙◌, ap, subst, inl, inr, suc, arith, get_or-set_other, get_or-set_same}
+use Rattle.std.proofs.Common.{◌≡◌, ◌≢◌, ◌<◌, ℕ, Bool, true, false, cond, List, Option, None, Some, length, get_or, refl, sym, ◌∙◌, ap, subst, inl, inr, suc, arith, get_or-set_other, get_or-set_same}
 use Rattle.std.proofs.Math.ListN.{set, length-set}
 use Rattle.std.proofs.lemmas.Bool.{cases_eq, eq-eqb, false_from_ne_true, false≢true, ne_eqb}
 use Rattle.std.proofs.Math.Dec.{eqb}
@@ -35,6 +35,11 @@ elsewhere flags p a there free same = false≢true (sym free ∙ ap (has_place f
 -- what is not in the larger set is not in the smaller one
 pub shrink : (v w : Bool) → (v ≡ true → w ≡ true) → w ≡ false → v ≡ false
 shrink v w grows free = false_from_ne_true v (λ h. false≢true (sym free ∙ grows h))
+
+-- the support of a place that is marked
+pub the-support : (o : Option ℕ) → is_some o ≡ true → (b : ℕ) × (o ≡ Some b)
+the-support None h = absurd (false≢true h)
+the-support (Some b) h = (b, refl)
 
 -- ---- a touched place
 

@@ -9,13 +9,9 @@ use Rattle.place_marks.proofs.ReachLemmas.{reached-closed, reached-on, reached-s
 use Rattle.kept_marks.specs.PlaceSet.{count_of, has_place}
 use Rattle.kept_marks.specs.Kept.{AddsTargets, IsEmpty, IsKept, IsRanked, IsSwept, IsUnsupported, IsWatched, KeepsWatch, Kept, check_work, is_supported, marked_count, settle_work, support_of}
 use Rattle.kept_marks.proofs.PlaceSetLemmas.{count-out}
-use Rattle.kept_marks.proofs.StepLemmas.{in-at, in-other, kept_of, on-at, on-other}
+use Rattle.kept_marks.proofs.StepLemmas.{in-at, in-other, kept_of, on-at, on-other, the-support}
 
 -- ---- what is kept, where nothing is left to look at
-
-the-support : (o : Option ℕ) → is_some o ≡ true → (b : ℕ) × (o ≡ Some b)
-the-support None h = absurd (false≢true h)
-the-support (Some b) h = (b, refl)
 
 no-support : (o : Option ℕ) → is_some o ≡ false → o ≡ None
 no-support None h = refl
@@ -147,6 +143,14 @@ watch-marked g s s' t q q' f p b inside mark adds a before = elim (cases_eq a p)
 work-less : (m m' room room' c c' : ℕ) → m ≡ m' + 1 → room' ≡ room → c' ≤ room' → m' * (room' + 1) + c' < m * (room + 1) + c
 work-less m m' room room' c c' one same few = subst (λ n. m' * (room' + 1) + c' < n * (room + 1) + c) (sym one) (subst (λ k. m' * (room' + 1) + c' < (m' + 1) * (k + 1) + c) same (omega arith))
 
+-- so too where the place is only taken out
+work-out : (m : ℕ) (t t' : List Bool) (p : ℕ) → has_place t p ≡ true → t' ≡ set t p false → m * (length t' + 1) + count_of t' < m * (length t + 1) + count_of t
+work-out m t t' p there out =
+    plain (length t) (length t') (count_of t) (count_of t') (ap length out ∙ length-set t p false) (ap (λ fs. count_of fs + 1) out ∙ count-out t p there)
+  where
+    plain : (n n' c c' : ℕ) → n' ≡ n → c' + 1 ≡ c → m * (n' + 1) + c' < m * (n + 1) + c
+    plain n n' c c' same one = subst (λ k. m * (k + 1) + c' < m * (n + 1) + c) (sym same) (omega arith)
+
 -- a place less is marked, or one more
 pub marked-out : (s s' : List (Option ℕ)) (p : ℕ) → p < length s → is_supported s p ≡ true → s' ≡ set s p None → marked_count s' + 1 ≡ marked_count s
 marked-out s s' p inside marked is =
@@ -164,18 +168,10 @@ marked-in s s' p b inside free is =
 
 -- each look at a place leaves less to do
 pub less-taken : (s : List (Option ℕ)) (t t' q q' f f' : List Bool) (p : ℕ) → has_place t p ≡ true → t' ≡ set t p false → check_work (kept_of s t' q' f') < check_work (kept_of s t q f)
-less-taken s t t' q q' f f' p there out =
-    plain (marked_count s) (length t) (length t') (count_of t) (count_of t') (ap length out ∙ length-set t p false) (ap (λ fs. count_of fs + 1) out ∙ count-out t p there)
-  where
-    plain : (m n n' c c' : ℕ) → n' ≡ n → c' + 1 ≡ c → m * (n' + 1) + c' < m * (n + 1) + c
-    plain m n n' c c' same one = subst (λ k. m * (k + 1) + c' < m * (n + 1) + c) (sym same) (omega arith)
+less-taken s t t' q q' f f' p there out = work-out (marked_count s) t t' p there out
 
 pub less-fallen : (s : List (Option ℕ)) (t q q' f f' : List Bool) (p : ℕ) → has_place q p ≡ true → q' ≡ set q p false → settle_work (kept_of s t q' f') < settle_work (kept_of s t q f)
-less-fallen s t q q' f f' p there out =
-    plain (length s - marked_count s) (length q) (length q') (count_of q) (count_of q') (ap length out ∙ length-set q p false) (ap (λ fs. count_of fs + 1) out ∙ count-out q p there)
-  where
-    plain : (m n n' c c' : ℕ) → n' ≡ n → c' + 1 ≡ c → m * (n' + 1) + c' < m * (n + 1) + c
-    plain m n n' c c' same one = subst (λ k. m * (k + 1) + c' < m * (n + 1) + c) (sym same) (omega arith)
+less-fallen s t q q' f f' p there out = work-out (length s - marked_count s) q q' p there out
 
 pub less-falling : (g : Graph) (s s' : List (Option ℕ)) (t t' q q' f : List Bool) (p : ℕ) (on : Option ℕ) → p < length s → is_supported s p ≡ true → s' ≡ set s p None → AddsTargets g s' (set t p false) t' p on → check_work (kept_of s' t' q' f) < check_work (kept_of s t q f)
 less-falling g s s' t t' q q' f p on inside marked unmark adds =

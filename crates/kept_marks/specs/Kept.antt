@@ -1,5 +1,6 @@
 -- Marks that are kept, each with what it stands on.
-use Rattle.std.specs.Prelude.{ℕ, ◌≡◌, ◌≢◌, ◌⊎◌, ◌<◌, ◌≤◌, ◌↔◌, ◌+◌, ◌-◌, ◌*◌, Bool, true, false, List, [], Option, None, Some, length, count_by, slice_index_or}
+use Rattle.std.specs.Prelude.{ℕ, ◌≡◌, ◌≢◌, ◌⊎◌, ◌<◌, ◌≤◌, ◌↔◌, ◌+◌, ◌-◌, ◌*◌, Bool, true, false}
+use Rattle.std.specs.Prelude.{List, [], Option, None, Some, length, count_by, slice_index_or}
 use Rattle.std.specs.Option.{is_some}
 use Rattle.place_marks.specs.Graph.{Graph, IsGraph, IsReached, IsStep}
 use Rattle.kept_marks.specs.PlaceSet.{count_of, has_place}

@@ -1,7 +1,8 @@
 use Rattle.std.proofs.Common.{◌<◌, ap, arith, length, subst, sym, true}
 use Rattle.std.proofs.Math.ListN.{length-set, set}
 use Rattle.kept_marks.specs.PlaceSet.{AreListed}
-use Rattle.kept_marks.proofs.PlaceSetLemmas.{listed-below, listed-put, read-false}
+use Rattle.place_marks.proofs.OrderLemmas.{read-false}
+use Rattle.kept_marks.proofs.PlaceSetLemmas.{listed-below, listed-put}
 use Rattle.kept_marks.proofs.place_set.PlaceSet.put.Goals as goal
 
 pub push_back_reserved-requires : goal.push_back_reserved-requires
