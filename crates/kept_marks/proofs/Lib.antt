@@ -1,0 +1,5 @@
+pub mod PlaceSetLemmas
+pub mod KeptLemmas
+pub mod StepLemmas
+pub mod SweepLemmas
+pub mod ChangeLemmas

@@ -1,0 +1,2 @@
+pub mod PlaceSet
+pub mod Kept
