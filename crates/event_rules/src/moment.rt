@@ -52,9 +52,8 @@ pub trait Moment {
     fn has_mail(&self, actor: ActorId) -> bool
         ensures { result ≡ not (has_nothing (waiting actor (story self.now).past)) };
 
-    /// Whether the actor, which was born, can be flushed.
+    /// Whether the actor can be flushed; so can one that was not born, of which nothing was told.
     fn can_flush(&self, actor: ActorId) -> bool
-        requires { is_born actor (story self.now).past ≡ true }
         ensures { result ≡ can_flush (story self.now).cluster actor (story self.now).past };
 
     /// Whether an entry is in the queue of the node, one of the cluster.
