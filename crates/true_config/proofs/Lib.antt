@@ -1,0 +1,4 @@
+pub mod Bounds
+pub mod Growing
+pub mod Readings
+pub mod ToldEvents

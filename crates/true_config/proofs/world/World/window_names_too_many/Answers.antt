@@ -1,0 +1,6 @@
+use Rattle.std.proofs.Common.{ap, rules}
+use Rattle.std.specs.Prelude.{nat_lt}
+use Rattle.true_config.proofs.world.World.window_names_too_many.Goals as goal
+
+pub returns : goal.returns
+returns c = ap (nat_lt 200000) (c.named.ensures.stands c.args.self.now.cluster c.args.self.now.past (search rules))

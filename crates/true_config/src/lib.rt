@@ -1,0 +1,12 @@
+//! The cluster as it is: any event of any history, answered exactly as the definitions say.
+#![tactic(auto)]
+
+mod acting;
+mod limits;
+mod links;
+mod moment;
+mod readers;
+mod telling;
+mod world;
+
+pub use world::World;

@@ -1,0 +1,81 @@
+//! The limits that an event would pass.
+ghost use Rattle.std.specs.Prelude.{◌≡◌, ◌≢◌, None, nat_lt, IfOk};
+ghost use Rattle.history_model.specs.Legal.{refusal};
+ghost use Rattle.history_model.specs.Streams.{queue, window};
+ghost use Rattle.journal_model.specs.Limits.{limit_passed, named_count, passes_actors, passes_delta};
+
+use crate::World;
+use crgc_ids::{NoMemory, NodeId, Which};
+use event_rules::refusal;
+use history_model::{Event, Rule};
+
+impl World {
+    /// The first rule that the event breaks; None exactly where it is legal. It asks at most seven times, and a send twice more
+    /// for each reference.
+    pub fn refusal(&self, event: &Event) -> Option<Rule>
+        ensures { result ≡ refusal self.now.cluster event.now self.now.past }
+    {
+        refusal(self, event)
+    }
+
+    /// The limit that a legal event would pass, if any: an actor beyond the greatest serial, then a bulletin that names more than
+    /// 200,000 actors, then an event beyond the 1,000,000th. For a publish it adds the queue up, in time in proportion to
+    /// n log n for n rows.
+    pub fn limit(&self, event: &Event) -> Result<Option<Which>, NoMemory>
+        requires { refusal self.now.cluster event.now self.now.past ≡ None }
+        ensures { IfOk result (λ limit. limit ≡ limit_passed self.now.cluster event.now self.now.past) }
+    {
+        if self.passes_actors(event) {
+            return Ok(Some(Which::Actors));
+        }
+        let Ok(over) = self.passes_delta(event) else {
+            return Err(NoMemory);
+        };
+        if over {
+            return Ok(Some(Which::Delta));
+        }
+        if self.history.len() >= 1_000_000 {
+            return Ok(Some(Which::Events));
+        }
+        Ok(None)
+    }
+
+    /// Whether the event gives birth to an actor beyond the greatest serial.
+    fn passes_actors(&self, event: &Event) -> bool
+        ensures { result ≡ passes_actors event.now self.now.past }
+    {
+        match event {
+            Event::Seed { node } => self.born(*node) >= 262144,
+            Event::Spawn { parent } => self.born(parent.node()) >= 262144,
+            _ => false,
+        }
+    }
+
+    /// Whether the bulletin that a legal event makes would name too many actors.
+    fn passes_delta(&self, event: &Event) -> Result<bool, NoMemory>
+        requires { refusal self.now.cluster event.now self.now.past ≡ None }
+        ensures { IfOk result (λ over. over ≡ passes_delta self.now.cluster event.now self.now.past) }
+    {
+        match event {
+            Event::Publish { node } => self.queue_names_too_many(*node),
+            Event::Window { at, from } => Ok(self.window_names_too_many(*from, *at)),
+            Event::Remove { at, gone } => Ok(self.window_names_too_many(*gone, *at)),
+            _ => Ok(false),
+        }
+    }
+
+    /// Whether the next window of the link would name too many actors.
+    fn window_names_too_many(&self, from: NodeId, at: NodeId) -> bool
+        requires { from ≢ at }
+        ensures { result ≡ nat_lt 200000 (named_count (window from at self.now.past)) }
+    {
+        self.traffic.named(from, at) > 200_000
+    }
+
+    /// Whether the next Delta of the node would name too many actors.
+    fn queue_names_too_many(&self, node: NodeId) -> Result<bool, NoMemory>
+        ensures { IfOk result (λ over. over ≡ nat_lt 200000 (named_count (queue self.now.cluster node self.now.past))) }
+    {
+        self.streams.names_too_many(node)
+    }
+}

@@ -1,0 +1,54 @@
+//! What is read of a world.
+ghost use Rattle.std.specs.Prelude.{◌≡◌, ◌≢◌, ◌≤◌, length, IfNone, IfSome};
+ghost use Rattle.history_model.specs.Live.{busy_count};
+ghost use Rattle.history_model.specs.Streams.{stream};
+ghost use Rattle.history_model.specs.Tells.{IsOrdered};
+ghost use Rattle.bulletin_streams.specs.Standing.{TellsNumber, queued};
+ghost use Rattle.roster.specs.Standing.{stopped_at};
+ghost use Rattle.traffic.specs.Readings.{IsHead};
+
+use crate::World;
+use crgc_ids::NodeId;
+use history_model::Bulletin;
+
+impl World {
+    /// How many actors of the node were stopped. Constant time.
+    pub fn stopped(&self, node: NodeId) -> u32
+        ensures { result ≡ stopped_at self.now.cluster node self.now.past }
+    {
+        self.roster.stopped(node)
+    }
+
+    /// How many actors are busy on nodes that are up. Constant time: the nodes are 16 at most.
+    pub fn busy_count(&self) -> u32
+        ensures { result ≡ busy_count self.now.cluster self.now.past }
+    {
+        self.roster.busy_count()
+    }
+
+    /// How many entries wait for the next publish of the node. Constant time.
+    pub fn queue_len(&self, node: NodeId) -> usize
+        ensures { result ≡ queued node self.now.past }
+    {
+        self.streams.queue_len(node)
+    }
+
+    /// The bulletin with this number, from 0, of the origin's stream: it tells the stream's notice there. None exactly where
+    /// the stream has no such number. Constant time.
+    pub fn bulletin(&self, origin: NodeId, number: u32) -> Option<&Bulletin>
+        ensures told { IfSome result (λ b. TellsNumber self.now.cluster self.now.past origin number b.now) }
+        ensures ordered { IfSome result (λ b. IsOrdered b.now) }
+        ensures none { IfNone result (length (stream self.now.cluster origin self.now.past) ≤ number) }
+    {
+        self.streams.bulletin(origin, number)
+    }
+
+    /// The lowest number with a copy on the link, where it is not closed and ends at a node that is up; None exactly where there
+    /// is none. Logarithmic time in the numbers that have a copy.
+    pub fn link_head(&self, from: NodeId, at: NodeId) -> Option<u32>
+        requires { from ≢ at }
+        ensures { IsHead from at self.now.past result }
+    {
+        self.traffic.head(from, at)
+    }
+}
