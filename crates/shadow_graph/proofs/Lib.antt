@@ -9,3 +9,6 @@ pub mod AddedLemmas
 pub mod SettleLemmas
 pub mod LosingLemmas
 pub mod GraphLemmas
+pub mod KeptLemmas
+pub mod FoldLemmas
+pub mod EmptyLemmas

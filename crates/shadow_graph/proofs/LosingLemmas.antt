@@ -138,7 +138,7 @@ last-counts cl f before after s d few part below counts = lost-alike cl f (lost_
 -- ---- how much changes
 
 pub corrects-none : (before after : List ℕ) (s : Shadows) (e : Edges) → Corrects (gain_before before after 0) s s e e
-corrects-none before after s e = record { received = λ a. refl; told = λ a. omega arith; admitted = λ a. omega arith; given = λ b a. omega arith; released = λ b a. refl }
+corrects-none before after s e = record { received = λ a. refl; told = λ a. omega arith; admitted = λ a. omega arith; given = λ b a. omega arith; released = λ b a. refl; dropped = λ a. refl }
 
 pub turn-corrects : (log : List (List Correction)) (before after : List ℕ) (i : ℕ) (r s t : Shadows) (c d e : Edges) → i < 16 → ((n : ℕ) (owner : Option Actor) (target : Actor) → admitted_from log n owner target ≤ 72057594037927936) → IsTurn log before after i s t d e → Corrects (gain_before before after i) r s c d → Corrects (gain_before before after (i + 1)) r t c e
 turn-corrects log before after i r s t c d e inside small turn so_far =
@@ -182,6 +182,7 @@ turn-corrects log before after i r s t c d e inside small turn so_far =
           omega (arith, new, old, one, more)
           );
       released = λ b a. moves.released b a ∙ so_far.released b a;
+      dropped = λ a. ap (λ (x : Shadow). x.dropped) (moves.shadows a) ∙ so_far.dropped a;
     }
 
 -- ---- ends

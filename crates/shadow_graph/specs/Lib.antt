@@ -5,3 +5,4 @@ pub mod Graph
 pub mod Stands
 pub mod Losing
 pub mod Taken
+pub mod Kept

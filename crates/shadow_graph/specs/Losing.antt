@@ -37,3 +37,4 @@ pub record Corrects (gain : ℕ) (s t : Shadows) (e f : Edges) : Type 0 where
   pub admitted : (a : Actor) → (shadow_at t a).admitted ≤ (shadow_at s a).admitted + gain * 72057594037927936
   pub given : (b a : Actor) → (edge_between f b a).given ≤ (edge_between e b a).given + gain * 72057594037927936
   pub released : (b a : Actor) → (edge_between f b a).released ≡ (edge_between e b a).released
+  pub dropped : (a : Actor) → (shadow_at t a).dropped ≡ (shadow_at s a).dropped

@@ -1,11 +1,21 @@
 -- What a graph is with the rows of a bulletin taken in.
-use Rattle.std.specs.Prelude.{◌≡◌, ◌+◌, ℕ, not, slice_index, slice_set}
+use Rattle.std.specs.Prelude.{◌≡◌, ◌≢◌, ◌+◌, ◌<◌, ⊤, ◌↔◌, ◌⊎◌, ℕ, not, slice_index, slice_set}
+use Rattle.crgc_ids.specs.Actor.{Actor}
+use Rattle.crgc_ids.specs.Members.{IsAmong}
 use Rattle.crgc_ids.specs.Nodes.{has_node}
 use Rattle.history_model.specs.declared.records.Bulletin.{Bulletin}
+use Rattle.history_model.specs.declared.records.Bulletin.TheVariants as bulletins
+use Rattle.history_model.specs.Cluster.{Cluster}
+use Rattle.history_model.specs.Folds.{Fold}
 use Rattle.history_model.specs.Ledgers.{ledger_names}
-use Rattle.history_model.specs.MoreFolded.{link_rows, own_rows}
-use Rattle.history_model.specs.Tells.{bulletin_ledger}
+use Rattle.history_model.specs.MoreFolded.{link_rows, own_rows, with_notice}
+use Rattle.history_model.specs.Streams.{Notice}
+use Rattle.history_model.specs.Tells.{Tells, bulletin_ledger}
+use Rattle.membership.specs.Noted.{links_of}
+use Rattle.shadow_table.specs.Shadows.{shadow_at}
 use Rattle.shadow_graph.specs.Graph.{AddsLog, AddsRows, Graph, NamesRows, lost_in}
+use Rattle.shadow_graph.specs.Losing.{LosesNodes}
+use Rattle.shadow_graph.specs.Stands.{IsGraphOf}
 
 -- the rows are counted under the old lost nodes and noted in the log, their actors are named, and the cut counts the bulletin
 pub record TakesIn (o : ℕ) (b : Bulletin) (old new : Graph) : Type 0 where
@@ -14,3 +24,28 @@ pub record TakesIn (o : ℕ) (b : Bulletin) (old new : Graph) : Type 0 where
   pub log : AddsLog o b old.log new.log
   pub names : NamesRows old.shadows.names new.shadows.names (ledger_names (bulletin_ledger b))
   pub cut : new.cut ≡ slice_set old.cut o (slice_index old.cut o + 1)
+
+-- the Final of the link from s to o is noted, and the nodes that are newly lost are settled
+pub record ClosesLink (s o : ℕ) (old new : Graph) : Type 0 where
+  pub nodes : new.finals.nodes ≡ old.finals.nodes
+  pub links : (l : ℕ × ℕ) → IsAmong l (links_of new.finals) ↔ ((l ≡ (s, o)) ⊎ IsAmong l (links_of old.finals))
+  pub cut : new.cut ≡ old.cut
+  pub log : new.log ≡ old.log
+  pub names : new.shadows.names ≡ old.shadows.names
+  pub counts : LosesNodes old.log (lost_in old) (lost_in new) old.shadows new.shadows old.edges new.edges
+  pub dropped : (a : Actor) → (shadow_at new.shadows a).dropped ≡ (shadow_at old.shadows a).dropped
+
+-- the bulletin of node o is folded: where the graph stood for a fold, it stands for the fold with the bulletin. The actors that
+-- its rows name are named, nobody is dropped, and the cut counts it
+pub record FoldsIn (o : ℕ) (b : Bulletin) (old new : Graph) : Type 0 where
+  pub stands : (cl : Cluster) (f : Fold) (n : Notice) → Tells o b n → IsGraphOf cl f old → IsGraphOf cl (with_notice o n f) new
+  pub names : NamesRows old.shadows.names new.shadows.names (ledger_names (bulletin_ledger b))
+  pub dropped : (a : Actor) → (shadow_at new.shadows a).dropped ≡ (shadow_at old.shadows a).dropped
+  pub cut : new.cut ≡ slice_set old.cut o (slice_index old.cut o + 1)
+  pub nodes : new.finals.nodes ≡ old.finals.nodes
+
+-- a window or Final is of a link between two different nodes of so many, into its own node
+abbrev pub IsLinked : ℕ → Bulletin → Type 0
+IsLinked nodes (bulletins.Delta d) = ⊤
+IsLinked nodes (bulletins.Window w) = (w.from < nodes) × (w.from ≢ w.at)
+IsLinked nodes (bulletins.Final w) = (w.from < nodes) × (w.from ≢ w.at)

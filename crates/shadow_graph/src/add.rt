@@ -3,7 +3,7 @@ ghost use Rattle.std.specs.Prelude.{◌≡◌, ◌≤◌, true, Bool, Option, On
 ghost use Rattle.std.specs.List.{AllByRecursion};
 ghost use Rattle.crgc_ids.specs.Actor.{Actor};
 ghost use Rattle.history_model.specs.declared.records.Bulletin.TheVariants as bulletins;
-ghost use Rattle.history_model.specs.Ledgers.{delta_ledger, ledger_names, no_rows};
+ghost use Rattle.history_model.specs.Ledgers.{IsInOrder, delta_ledger, ledger_names, no_rows};
 ghost use Rattle.delta_graph.specs.Sums.{CountsFit};
 ghost use Rattle.shadow_table.specs.Shadows.{ExtendsShadows, is_named};
 ghost use Rattle.undo_log.specs.Told.{Notes, told_by};
@@ -43,6 +43,7 @@ fn prepare_delta(
     ensures edges { ExtendsEdges edges.old edges.new }
     ensures places { edges.old.places ≤ edges.new.places }
     ensures log { OnErr result (log.new ≡ log.old) }
+    ensures ordered { IsInOrder (delta_ledger delta.now) }
 {
     let states = delta.states.as_slice();
     let sent = delta.sent.as_slice();
@@ -77,6 +78,7 @@ pub fn add_delta(
     ensures pairs { OnErr result (edges.new.pairs ≡ edges.old.pairs) }
     ensures edges { OnErr result (edges.new.edges ≡ edges.old.edges) }
     ensures log { OnErr result (log.new ≡ log.old) }
+    ensures ordered { IsInOrder (delta_ledger delta.now) }
 {
     let places = shadows.place_count();
     let count = edges.edge_count();

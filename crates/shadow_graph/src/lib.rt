@@ -4,6 +4,7 @@
 mod add;
 mod count;
 mod edges;
+mod graph;
 mod grow;
 pub mod laws;
 mod names;
@@ -11,5 +12,6 @@ mod settle;
 mod windows;
 
 pub use add::add_delta;
+pub use graph::ShadowGraph;
 pub use settle::settle_lost;
 pub use windows::add_window;

@@ -3,7 +3,7 @@ ghost use Rattle.std.specs.Prelude.{◌≡◌, ◌≤◌, if◌then◌else◌, t
 ghost use Rattle.std.specs.List.{AllByRecursion};
 ghost use Rattle.crgc_ids.specs.Actor.{Actor};
 ghost use Rattle.history_model.specs.declared.records.Bulletin.TheVariants as bulletins;
-ghost use Rattle.history_model.specs.Ledgers.{ledger_names, no_rows, window_ledger};
+ghost use Rattle.history_model.specs.Ledgers.{IsInOrder, ledger_names, no_rows, window_ledger};
 ghost use Rattle.delta_graph.specs.Sums.{CountsFit};
 ghost use Rattle.shadow_table.specs.Shadows.{ExtendsShadows, is_named};
 ghost use Rattle.undo_log.specs.Told.{Notes, admitted_from};
@@ -41,6 +41,7 @@ fn prepare_window(
     ensures edges { ExtendsEdges edges.old edges.new }
     ensures places { edges.old.places ≤ edges.new.places }
     ensures log { OnErr result (log.new ≡ log.old) }
+    ensures ordered { IsInOrder (window_ledger window.now) }
 {
     let messages = window.messages.as_slice();
     let carried = window.carried.as_slice();
@@ -76,6 +77,7 @@ pub fn add_window(
     ensures pairs { OnErr result (edges.new.pairs ≡ edges.old.pairs) }
     ensures edges { OnErr result (edges.new.edges ≡ edges.old.edges) }
     ensures log { OnErr result (log.new ≡ log.old) }
+    ensures ordered { IsInOrder (window_ledger window.now) }
 {
     let places = shadows.place_count();
     let count = edges.edge_count();

@@ -27,3 +27,9 @@ returns-clause-fits c =
     let rows : AreCounts [] d.messages d.carried [] = counts-same [] [] _ d.messages _ d.carried [] [] refl c.as_slice-messages.ensures.value c.as_slice-carried.ensures.value refl c.in_ok-grow.ensures.fits in
     let up : RowsRise (window_ledger d) = record { states = tt; sent = c.as_slice-messages.ensures.rising; created = c.as_slice-carried.ensures.rising; released = tt } in
     counts-fit (window_ledger d) up rows
+
+pub returns-clause-ordered : goal.returns-clause-ordered
+returns-clause-ordered c = (
+  record { states = tt; sent = c.as_slice-messages.ensures.rising; created = c.as_slice-carried.ensures.rising; released = tt },
+  record { sent = c.as_slice-messages.ensures.stands; created = c.as_slice-carried.ensures.stands; released = tt },
+)

@@ -1,0 +1,8 @@
+use Rattle.std.proofs.Common.{◌≤◌, ◌∙◌, ap, subst, sym}
+use Rattle.edge_table.specs.Table.{Edges}
+use Rattle.shadow_graph.proofs.EmptyLemmas.{nothing-folded}
+use Rattle.shadow_graph.proofs.graph.ShadowGraph.new.Goals as goal
+
+pub returns-clause-stands : goal.returns-clause-stands
+returns-clause-stands c = λ cl same.
+    nothing-folded cl _ (subst (λ n. n ≤ 16) (sym c.new-finals.ensures.nodes) c.requires.in_range) (c.new-finals.ensures.nodes ∙ sym same) c.new-finals.ensures.links c.zero.ensures c.new.ensures (ap (λ (e : Edges). e.pairs) c.new-2.ensures) (ap (λ (e : Edges). e.edges) c.new-2.ensures) c.new-3.ensures
