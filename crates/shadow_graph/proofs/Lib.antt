@@ -12,3 +12,4 @@ pub mod GraphLemmas
 pub mod KeptLemmas
 pub mod FoldLemmas
 pub mod EmptyLemmas
+pub mod SeenLemmas

@@ -6,3 +6,4 @@ pub mod Stands
 pub mod Losing
 pub mod Taken
 pub mod Kept
+pub mod Seen

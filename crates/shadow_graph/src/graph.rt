@@ -1,21 +1,26 @@
 //! The shadow graph of a collector.
-ghost use Rattle.std.specs.Prelude.{◌≡◌, ◌≢◌, ◌<◌, ◌≤◌, OnErr, OnOk, length, replicate, slice_index, []};
+ghost use Rattle.std.specs.Prelude.{◌≡◌, ◌≢◌, ◌<◌, ◌≤◌, ◌-ℤ◌, pos, true, IfSome, OnErr, OnOk, length, replicate, slice_get, slice_index, []};
+ghost use Rattle.std.specs.Option.{is_some};
 ghost use Rattle.history_model.specs.Cluster.{Cluster};
 ghost use Rattle.history_model.specs.Ledgers.{IsInOrder, delta_ledger, window_ledger};
 ghost use Rattle.history_model.specs.Tells.{origin_of};
 ghost use Rattle.history_model.specs.declared.records.Bulletin.TheVariants as bulletins;
-ghost use Rattle.shadow_table.specs.Shadows.{no_shadows};
+ghost use Rattle.history_model.specs.Folds.{Fold};
+ghost use Rattle.shadow_table.specs.Shadows.{is_named, no_shadows, place_in};
+ghost use Rattle.shadow_graph.specs.Graph.{lost_in};
+ghost use Rattle.shadow_graph.specs.Seen.{Drops, is_dropped, is_known, seen_edge, seen_shadow};
 ghost use Rattle.shadow_graph.specs.Stands.{IsGraphOf};
 ghost use Rattle.shadow_graph.specs.Taken.{ClosesLink, FoldsIn, IsLinked, TakesIn};
 
 use crate::add::add_delta;
+use crate::found::{blank, edge_between, no_edge, shadow_of};
 use crate::settle::settle_lost;
 use crate::windows::add_window;
-use crgc_ids::{Cut, NoMemory, NodeId, NodeSet};
-use edge_table::EdgeTable;
+use crgc_ids::{ActorId, Cut, NoMemory, NodeId, NodeSet};
+use edge_table::{Edge, EdgeTable};
 use history_model::{Bulletin, Delta, Window};
 use membership::Finals;
-use shadow_table::ShadowTable;
+use shadow_table::{Shadow, ShadowTable};
 use std::alloc::Global;
 use std::marker::Model;
 use undo_log::UndoLog;
@@ -90,6 +95,134 @@ impl ShadowGraph {
             Bulletin::Window(window) => self.take_window(window),
             Bulletin::Final(window) => self.take_final(window),
         }
+    }
+
+    /// The actor, which was named, is dropped: nothing of it is known from then on, and nobody's edge to it counts. The edges
+    /// that lead from it stay, and what is folded later is counted as ever. Constant time on average.
+    pub fn drop_actor(&mut self, actor: ActorId)
+        requires { is_named self.old.shadows.names actor ≡ true }
+        ensures drops { Drops actor self.old self.new }
+        ensures stands { (cl : Cluster) (f : Fold) → IsGraphOf cl f self.old → IsGraphOf cl f self.new }
+    {
+        self.shadows.drop_actor(actor);
+    }
+
+    /// How many actors were named.
+    pub fn place_count(&self) -> u32
+        ensures { result ≡ length self.now.shadows.names }
+    {
+        self.shadows.place_count()
+    }
+
+    /// The place of the actor, its number in the order of naming; None exactly where it was never named. Constant time on
+    /// average.
+    pub fn place_of(&self, actor: ActorId) -> Option<u32>
+        ensures place { IfSome result (λ place. place ≡ place_in self.now.shadows.names actor) }
+        ensures within { IfSome result (λ place. place < length self.now.shadows.names) }
+        ensures found { is_some result ≡ is_named self.now.shadows.names actor }
+    {
+        self.shadows.place_of(actor)
+    }
+
+    /// The actor at the place; None exactly at `place_count` and above.
+    pub fn actor_at(&self, place: u32) -> Option<ActorId>
+        ensures { result ≡ slice_get self.now.shadows.names place }
+    {
+        self.shadows.actor_at(place)
+    }
+
+    /// Whether the actor was dropped. Constant time on average.
+    pub fn is_dropped(&self, actor: ActorId) -> bool
+        ensures { result ≡ is_dropped self.now actor }
+    {
+        shadow_of(&self.shadows, actor).dropped
+    }
+
+    /// Whether some folded bulletin named the actor, and it was not dropped. Constant time on average.
+    pub fn is_known(&self, actor: ActorId) -> bool
+        ensures { result ≡ is_known self.now actor }
+    {
+        self.shadows.place_of(actor).is_some() && !self.is_dropped(actor)
+    }
+
+    /// The flags (busy, root) of the actor's last own entry; None exactly where none is folded or the actor was dropped.
+    /// Constant time on average.
+    pub fn flags(&self, actor: ActorId) -> Option<(bool, bool)>
+        ensures { result ≡ (seen_shadow self.now actor).flags }
+    {
+        self.seen_shadow(actor).flags
+    }
+
+    /// How many messages the actor took; 0 where it was dropped. Constant time on average.
+    pub fn received(&self, actor: ActorId) -> u64
+        ensures { result ≡ (seen_shadow self.now actor).received }
+    {
+        self.seen_shadow(actor).received
+    }
+
+    /// How many messages to the actor were told by Deltas of nodes that are not lost; 0 where it was dropped. Constant time on
+    /// average.
+    pub fn told(&self, actor: ActorId) -> u64
+        ensures { result ≡ (seen_shadow self.now actor).told }
+    {
+        self.seen_shadow(actor).told
+    }
+
+    /// How many messages to the actor were admitted from lost nodes; 0 where it was dropped. Constant time on average.
+    pub fn admitted(&self, actor: ActorId) -> u64
+        ensures { result ≡ (seen_shadow self.now actor).admitted }
+    {
+        self.seen_shadow(actor).admitted
+    }
+
+    /// The messages that the actor took, less those that were told and those that were admitted. Constant time on average.
+    pub fn balance(&self, actor: ActorId) -> i64
+        ensures { let s = seen_shadow self.now actor in result ≡ (pos s.received -ℤ pos s.told) -ℤ pos s.admitted }
+    {
+        let shadow = self.seen_shadow(actor);
+        shadow.received as i64 - shadow.told as i64 - shadow.admitted as i64
+    }
+
+    /// The references to the target that the owner was given, less those that it released; 0 where the target was dropped.
+    /// Constant time on average.
+    pub fn edge(&self, owner: ActorId, target: ActorId) -> i64
+        ensures { let e = seen_edge self.now owner target in result ≡ pos e.given -ℤ pos e.released }
+    {
+        let edge = self.seen_edge(owner, target);
+        edge.given as i64 - edge.released as i64
+    }
+
+    /// The nodes that are lost by the Finals that are folded.
+    pub fn lost(&self) -> NodeSet
+        ensures { result ≡ lost_in self.now }
+    {
+        self.lost
+    }
+
+    /// The shadow of the actor, or a blank one where it was dropped or never named.
+    fn seen_shadow(&self, actor: ActorId) -> Shadow
+        ensures value { result ≡ seen_shadow self.now actor }
+        ensures received { result.received ≤ 4611686018427387904 }
+        ensures told { result.told ≤ 4611686018427387904 }
+        ensures admitted { result.admitted ≤ 4611686018427387904 }
+    {
+        let shadow = shadow_of(&self.shadows, actor);
+        if shadow.dropped {
+            return blank();
+        }
+        shadow
+    }
+
+    /// What is kept of the owner's references to the target; nothing where the target was dropped or no row named the pair.
+    fn seen_edge(&self, owner: ActorId, target: ActorId) -> Edge
+        ensures value { result ≡ seen_edge self.now owner target }
+        ensures given { result.given ≤ 4611686018427387904 }
+        ensures released { result.released ≤ 4611686018427387904 }
+    {
+        if shadow_of(&self.shadows, target).dropped {
+            return no_edge();
+        }
+        edge_between(&self.edges, owner, target)
     }
 
     /// The Delta is taken in. After `NoMemory` all is as before. Time in proportion to n log n for n rows, on average and

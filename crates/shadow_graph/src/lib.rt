@@ -4,6 +4,7 @@
 mod add;
 mod count;
 mod edges;
+mod found;
 mod graph;
 mod grow;
 pub mod laws;

@@ -1,0 +1,55 @@
+//! What is found of an actor, and of an owner and a target, whether a row named them or not.
+ghost use Rattle.std.specs.Prelude.{◌≡◌};
+ghost use Rattle.edge_table.specs.Table.{no_edge};
+ghost use Rattle.shadow_table.specs.Shadows.{blank, shadow_at};
+ghost use Rattle.shadow_graph.specs.Pairs.{edge_between};
+
+use crgc_ids::ActorId;
+use edge_table::{Edge, EdgeTable};
+use shadow_table::{Shadow, ShadowTable};
+
+/// The shadow of the actor, or a blank one where it was not named.
+pub fn shadow_of(shadows: &ShadowTable, actor: ActorId) -> Shadow
+    ensures { result ≡ shadow_at shadows.now actor }
+{
+    let _places = shadows.place_count();
+    let Some(place) = shadows.place_of(actor) else {
+        return blank();
+    };
+    shadows.shadow(place)
+}
+
+/// What is kept of the owner's references to the target, or of no edge where no row named the pair.
+pub fn edge_between(edges: &EdgeTable, owner: ActorId, target: ActorId) -> Edge
+    ensures { result ≡ edge_between edges.now owner target }
+{
+    let Some(number) = edges.number_of(owner, target) else {
+        return no_edge();
+    };
+    edges.edge(number)
+}
+
+/// The shadow of an actor of which nothing is told.
+pub fn blank() -> Shadow
+    ensures { result ≡ blank }
+{
+    Shadow {
+        received: 0,
+        told: 0,
+        admitted: 0,
+        flags: None,
+        dropped: false,
+    }
+}
+
+/// An edge along which nothing is given and released.
+pub fn no_edge() -> Edge
+    ensures { result ≡ no_edge }
+{
+    Edge {
+        owner: 0,
+        target: 0,
+        given: 0,
+        released: 0,
+    }
+}
