@@ -3,3 +3,4 @@ pub mod Lines
 pub mod Report
 pub mod ReportExamples
 pub mod LimitExamples
+pub mod Verdicts
