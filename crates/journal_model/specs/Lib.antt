@@ -4,6 +4,7 @@ pub mod Fields
 pub mod Shapes
 pub mod Reading
 pub mod Report
+pub mod Verdicts
 pub mod ReportExamples
 pub mod LimitExamples
 pub mod LineExamples
