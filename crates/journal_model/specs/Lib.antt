@@ -1,5 +1,10 @@
 pub mod Limits
 pub mod Lines
+pub mod Fields
+pub mod Shapes
+pub mod Reading
 pub mod Report
+pub mod Verdicts
 pub mod ReportExamples
 pub mod LimitExamples
+pub mod LineExamples

@@ -1,11 +1,13 @@
 -- The spelling of lines: words joined by single spaces.
 use Rattle.std.specs.Prelude.{ℕ, ◌<◌, ◌≤◌, ◌^◌, ◌==◌, List, [], ◌∷◌, ◌++◌, length, map, decimal, codes, flat_map}
-use Rattle.std.specs.List.{join_with_byte, slice_split}
+use Rattle.std.specs.List.{AllByRecursion, join_with_byte, slice_split}
 use Rattle.crgc_ids.specs.Actor.{Actor, IsActor}
 use Rattle.history_model.specs.declared.events.Event.{Event}
 use Rattle.history_model.specs.declared.events.Event.TheVariants.{Seed, Tie, Wake, Take, Spawn, Send, Drop, Retire, Rest, Flush, Publish, Window, Admit, Lose, Repeat, Crash, Remove, Hand, Sweep}
 use Rattle.history_model.specs.declared.records.Stop.{Stop}
 use Rattle.history_model.specs.Cluster.{Cluster}
+use Rattle.journal_model.specs.declared.lines.Line.{Line}
+use Rattle.journal_model.specs.declared.lines.Line.TheVariants as lines
 
 -- the words of a line, joined by single spaces
 abbrev pub spell : List (List ℕ) → List ℕ
@@ -59,9 +61,23 @@ abbrev pub end_words : ℕ → ℕ → List (List ℕ)
 end_words events stopped =
     codes "end" ∷ codes "events" ∷ decimal events ∷ codes "stopped" ∷ decimal stopped ∷ []
 
+abbrev pub line_words : Line → List (List ℕ)
+line_words (lines.Event e) = event_words e
+line_words (lines.Cut m counts lost) = cut_words m counts lost
+line_words (lines.Stop m s) = stop_words m s
+line_words (lines.End events stopped) = end_words events stopped
+
+-- the one spelling of what a line says, without its line feed
+abbrev pub spelling : Line → List ℕ
+spelling l = spell (line_words l)
+
 -- a node is a number from 0 to 15
 abbrev pub IsNodeNumber : ℕ → Type 0
 IsNodeNumber n = n < 16
+
+-- any other number is below 2 ^ 32
+abbrev pub IsNumber : ℕ → Type 0
+IsNumber n = n < 2 ^ 32
 
 abbrev pub AreActors : List Actor → Type 0
 AreActors [] = Unit {0}
@@ -92,6 +108,24 @@ IsWithinRanges (Sweep n) = IsNodeNumber n
 abbrev pub AreWithinRanges : List Event → Type 0
 AreWithinRanges [] = Unit {0}
 AreWithinRanges (e ∷ p) = IsWithinRanges e × AreWithinRanges p
+
+-- what the format asks of a cut: 1 to 16 counts, and at most 16 lost nodes
+abbrev pub IsPrintableCut : ℕ → List ℕ → List ℕ → Type 0
+IsPrintableCut m counts lost =
+    IsNodeNumber m × (1 ≤ length counts) × (length counts ≤ 16) × AllByRecursion IsNumber counts
+    × (length lost ≤ 16) × AllByRecursion IsNodeNumber lost
+
+-- what it asks of a stop
+abbrev pub IsPrintableStop : ℕ → Stop → Type 0
+IsPrintableStop m s =
+    IsNodeNumber m × IsActor s.actor × IsNumber s.received × IsNumber s.told × IsNumber s.admitted × AreActors s.owners
+
+-- what it asks of the lists and numbers of a line
+abbrev pub IsPrintable : Line → Type 0
+IsPrintable (lines.Event e) = IsWithinRanges e
+IsPrintable (lines.Cut m counts lost) = IsPrintableCut m counts lost
+IsPrintable (lines.Stop m s) = IsPrintableStop m s
+IsPrintable (lines.End events stopped) = IsNumber events × IsNumber stopped
 
 -- the lines of a text: the pieces between line feeds, where an empty last piece is no line
 abbrev pub without_empty_end : List (List ℕ) → List (List ℕ)

@@ -15,7 +15,7 @@ use Rattle.history_model.proofs.Basics.{eqb-refl, eqb-sym, legal-kept, same_acto
 use Rattle.link_table.specs.LinkState.{LinkState, abandoned}
 use Rattle.link_table.specs.Standing.{StandsFor, envelope_at, is_link_open, is_of_link, pile_with}
 use Rattle.link_table.proofs.StandingLemmas.{say-the_same, stands-still}
-use Rattle.link_table.specs.Table.{link_at}
+use Rattle.link_table.specs.Table.{IsLink, link_at}
 use Rattle.mail_laws.specs.Standing.{AdmitsNone, StandsForMail}
 use Rattle.mail_laws.proofs.WaitingLemmas.{all_refs, mail-left, mail-taken, waiting-admitted, waiting-other, waiting-taken}
 use Rattle.mailboxes.specs.Mail.{mail_of}
@@ -26,7 +26,7 @@ use Rattle.traffic.specs.Standing.{AlwaysKeeps, IsTrafficOf, Keeps, is_beside}
 use Rattle.traffic.specs.TrafficState.{TrafficState, link_of}
 use Rattle.traffic.proofs.LiveSums.{coming-same, live-changed, live-down, live-same, none-waits, waiting_at-born, waiting_at-changed, waiting_at-same}
 use Rattle.traffic.proofs.Outcomes.{on-ok}
-use Rattle.traffic.proofs.ReadySteps.{ready-if, ready-left, ready-same, ready-with, ready-without, busy-not_ready}
+use Rattle.traffic.proofs.ReadySteps.{busy-not_ready, by-actor, neither, ready-if, ready-left, ready-same, ready-with, ready-without}
 use Rattle.traffic.proofs.TableSteps.{links-stay}
 
 -- ---- what waits, where nothing is admitted and nobody takes
@@ -132,6 +132,21 @@ rests cl b p old new change legal stands =
 -- so where a call succeeded
 pub rests-kept : {A E : Type 0} (r : Result A E) (b : Actor) (old new : TrafficState) → OnOk r (Rests old new b) → OnOk r (AlwaysKeeps (Rest b) old new)
 rests-kept r b old new rest = on-ok (Rests old new b) (AlwaysKeeps (Rest b) old new) r rest (λ change cl p. rests cl b p old new change)
+
+-- a rest of a busy actor is undone where it wakes again
+pub rest-undone : (cl : Cluster) (h : List Event) (b : Actor) (old mid new : TrafficState) → is_busy b h ≡ true → Rests old mid b → Wakes mid new b → IsTrafficOf cl h old → IsTrafficOf cl h new
+rest-undone cl h b old mid new busy rest wake stands = record {
+  nodes = wake.rest.nodes.0 ∙ rest.rest.nodes.0 ∙ stands.nodes;
+  few = stands.few;
+  up = λ n. ap (λ (l : Loads). up_in l n) (wake.rest.nodes.1 ∙ rest.rest.nodes.1) ∙ stands.up n;
+  live = λ n. ap (λ (l : Loads). live_in l n) (wake.rest.nodes.1 ∙ rest.rest.nodes.1) ∙ stands.live n;
+  links = subst (λ ls. (s d : ℕ) → IsLink s d → StandsFor s d h (link_at ls s d)) (sym (wake.rest.links ∙ rest.rest.links)) stands.links;
+  mail = subst (StandsForMail h) (sym (wake.rest.boxes ∙ rest.rest.boxes)) stands.mail;
+  ready = λ a. by-actor (λ x. has_actor new.ready x ≡ is_ready x h) b a
+      (wake.ready b ∙ ap (λ v. not v && has_actor mid.ready b) (same_actor-refl b) ∙ sym (busy-not_ready b h busy))
+      (λ other. wake.ready a ∙ ap (λ v. not v && has_actor mid.ready a) other ∙ rest.ready a
+      ∙ ap (λ v. (nat_lt 0 (length (mail_of old.boxes b)) && v) || has_actor old.ready a) other ∙ neither (nat_lt 0 (length (mail_of old.boxes b))) (has_actor old.ready a) ∙ stands.ready a);
+}
 
 -- ---- takes
 

@@ -1,7 +1,7 @@
 -- What readers answer of a history for which the traffic stands.
-use Rattle.std.proofs.Common.{◌≡◌, ◌&&◌, ℕ, nat_lt, true, IfNone, IfSome, List, [], ◌∷◌, Option, Some, None, count_by, length, map, sum_by, refl, sym, ◌∙◌, ap, subst, inl, inr, arith}
+use Rattle.std.proofs.Common.{◌≡◌, ◌&&◌, ℕ, nat_lt, true, IfNone, IfSome, List, [], ◌∷◌, Option, Some, None, count_by, length, map, slice_get, sum_by, refl, sym, ◌∙◌, ap, subst, inl, inr, arith}
 use Rattle.std.proofs.lemmas.Bool.{cases_Bool, cases_lt, cond-false, cond-true, false≢true, le-ltb, lt-ltb}
-use Rattle.std.specs.Option.{IsSome}
+use Rattle.std.specs.Option.{IsSome, option_map}
 use Rattle.crgc_ids.specs.Actor.{Actor, same_actor}
 use Rattle.crgc_ids.specs.Nodes.{nodes_below}
 use Rattle.history_model.specs.declared.events.Event.{Event}
@@ -91,6 +91,13 @@ mail-read cl h t a stands = ap length (stands.mail a) ∙ mapped (waiting a h)
     mapped : (ms : List Message) → length (map (λ (m : Message). m.refs) ms) ≡ length ms
     mapped [] = refl
     mapped (m ∷ ms) = (let later = mapped ms in omega arith)
+
+pub first-read : (cl : Cluster) (h : List Event) (t : TrafficState) (a : Actor) → IsTrafficOf cl h t → slice_get (mail_of t.boxes a) 0 ≡ option_map (λ (m : Message). m.refs) (slice_get (waiting a h) 0)
+first-read cl h t a stands = ap (λ ms. slice_get ms 0) (stands.mail a) ∙ mapped (waiting a h)
+  where
+    mapped : (ms : List Message) → slice_get (map (λ (m : Message). m.refs) ms) 0 ≡ option_map (λ (m : Message). m.refs) (slice_get ms 0)
+    mapped [] = refl
+    mapped (m ∷ ms) = refl
 
 pub live-read : (cl : Cluster) (h : List Event) (t : TrafficState) → IsTrafficOf cl h t → sum_by (λ n. live_in t.loads n) (nodes_below t.nodes) ≡ live_count cl h
 live-read cl h t stands =

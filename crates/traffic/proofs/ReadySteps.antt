@@ -56,6 +56,11 @@ ready-without old new h p b change busy others has a =
     (change b ∙ ap (λ v. not v && has_actor old b) (same_actor-refl b) ∙ sym (busy-not_ready b h busy))
     (λ other. change a ∙ ap (λ v. not v && has_actor old a) other ∙ has a ∙ sym (others a other))
 
+-- a test of another actor adds nothing
+pub neither : (t o : Bool) → ((t && false) || o) ≡ o
+neither true o = refl
+neither false o = refl
+
 -- the actor may take a message now if this is so, or if it might before; the others are as they were
 pub ready-with : (old new : List Actor) (h p : List Event) (b : Actor) (test : Bool) → IsReadyIf test old new b → is_ready b h ≡ (test || is_ready b p) → ((a : Actor) → same_actor b a ≡ false → is_ready a h ≡ is_ready a p)
     → HasReady p old → HasReady h new
@@ -67,10 +72,6 @@ ready-with old new h p b test change here others has a =
     both : (t s o r : Bool) → s ≡ true → o ≡ r → ((t && s) || o) ≡ (t || r)
     both true s o r e f = cc
     both false s o r e f = f
-
-    neither : (t o : Bool) → ((t && false) || o) ≡ o
-    neither true o = refl
-    neither false o = refl
 
 -- the actors of a node that goes down may not, and the others are as they were
 pub ready-left : (old new : List Actor) (h p : List Event) (n : ℕ) → IsLeft old new n → is_up n h ≡ false → ((a : Actor) → (a.node == n) ≡ false → is_ready a h ≡ is_ready a p) → HasReady p old → HasReady h new

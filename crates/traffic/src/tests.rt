@@ -30,6 +30,7 @@ fn a_message_within_a_node_waits_at_once(rt: HostRuntime) -> Result<(), Fail> {
     if traffic.mail(recipient) == 0 {
         return Err(Fail::new("no message"));
     }
+    assert_eq!(rt; traffic.first(recipient).ok_or("a message")?.len(), 0);
     assert_eq!(rt; traffic.take(recipient).len(), 0);
     assert_eq!(rt; (traffic.next_ready(None), traffic.live_count()), (None, 0));
     traffic.rest(recipient)?;

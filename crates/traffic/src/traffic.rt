@@ -1,6 +1,6 @@
 //! The traffic between the actors of a cluster.
 ghost use Rattle.std.specs.Prelude.{◌≡◌, ◌≢◌, ◌+◌, ◌<◌, ◌≤◌, ◌^◌, ◌&&◌, not, ℕ, [], Bool, IfNone, IfOk, IfSome, List, None, OnErr, OnOk, OnSome, Some, length, slice_get, sum_by, true, false};
-ghost use Rattle.std.specs.Option.{option_map};
+ghost use Rattle.std.specs.Option.{option_copied, option_map};
 ghost use Rattle.crgc_ids.specs.Nodes.{nodes_below};
 ghost use Rattle.history_model.specs.declared.events.Event.{Event};
 ghost use Rattle.history_model.specs.declared.events.Event.TheVariants.{Admit, Crash, Lose, Remove, Repeat, Rest, Send, Take, Wake, Window as WindowEvent};
@@ -296,6 +296,15 @@ impl Traffic {
         ensures stands { InHistoriesOf self.now (λ h. result ≡ length (waiting actor h)) }
     {
         self.boxes.waiting(actor)
+    }
+
+    /// The actor's first message, which `take` would answer; None exactly where none waits. Logarithmic time in the number of
+    /// actors.
+    pub fn first(&self, actor: ActorId) -> Option<&RefList>
+        ensures first { option_copied result ≡ slice_get (mail_of self.now.boxes actor) 0 }
+        ensures stands { InHistoriesOf self.now (λ h. option_copied result ≡ option_map (λ (m : Message). m.refs) (slice_get (waiting actor h) 0)) }
+    {
+        self.boxes.first(actor)
     }
 
     /// How many copies of the number are on the link, while it is open; else 0. Logarithmic time in the numbers that have a

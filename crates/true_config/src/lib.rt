@@ -4,6 +4,7 @@
 mod acting;
 mod limits;
 mod links;
+mod messages;
 mod moment;
 mod readers;
 mod telling;

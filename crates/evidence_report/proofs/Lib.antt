@@ -1,0 +1,5 @@
+pub mod Stopping
+pub mod Totals
+pub mod Following
+pub mod Counting
+pub mod Summing
