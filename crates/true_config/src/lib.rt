@@ -7,6 +7,7 @@ mod links;
 mod moment;
 mod readers;
 mod telling;
+mod working;
 mod world;
 
 pub use world::World;
