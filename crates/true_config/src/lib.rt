@@ -11,3 +11,6 @@ mod working;
 mod world;
 
 pub use world::World;
+
+#[cfg(test)]
+mod tests;
