@@ -8,6 +8,10 @@ mod messages;
 mod moment;
 mod readers;
 mod telling;
+mod working;
 mod world;
 
 pub use world::World;
+
+#[cfg(test)]
+mod tests;
