@@ -1,12 +1,10 @@
 -- A world whose history goes on.
-use Rattle.std.proofs.Common.{◌≡◌, ◌+◌, ◌≤◌, ◌<◌, ◌∷◌, ℕ, Bool, true, false, cond, List, [], length, drop, Option, Some, None, refl, sym, ◌∙◌, ap, subst, arith}
+use Rattle.std.proofs.Common.{◌≡◌, ◌<◌, ◌∷◌, true, false, cond, List, [], length, drop, Some, None, refl, sym, ◌∙◌, ap, subst, arith}
 use Rattle.std.specs.Prelude.{nat_le}
 use Rattle.std.proofs.lemmas.Bool.{leb-false}
-use Rattle.crgc_ids.specs.declared.Which.{Which}
 use Rattle.crgc_ids.specs.declared.Which.TheVariants.{Actors, Delta, Events}
 use Rattle.history_model.specs.declared.events.Event.{Event}
 use Rattle.history_model.specs.Cluster.{Cluster}
-use Rattle.history_model.specs.Legal.{IsLegal}
 use Rattle.history_model.specs.Story.{Story}
 use Rattle.journal_model.specs.Limits.{limit_passed, passes_actors, passes_delta}
 use Rattle.journal_model.specs.Lines.{IsWithinRanges}
@@ -90,7 +88,8 @@ grows-in_streams e old new t r s z adds may ranges is beside_it others stand =
 
 -- ---- events taken back
 
-same-story : (a b : Story) → a.cluster ≡ b.cluster → a.past ≡ b.past → a ≡ b
+-- a history is its constants and its events
+pub same-story : (a b : Story) → a.cluster ≡ b.cluster → a.past ≡ b.past → a ≡ b
 same-story a b cluster past = ap (λ cl. record { cluster = cl; past = a.past }) cluster ∙ ap (λ h. record { cluster = b.cluster; past = h }) past
 
 -- an event that is taken back leaves the history as it was

@@ -1,2 +1,5 @@
+pub mod Applying
 pub mod Keeping
+pub mod Pairs
+pub mod Promises
 pub mod Steps

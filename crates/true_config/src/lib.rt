@@ -2,12 +2,18 @@
 #![tactic(auto)]
 
 mod acting;
+mod applied;
+mod both;
+mod flushing;
+mod lawful;
 mod limits;
 mod links;
 mod messages;
 mod moment;
 mod readers;
+mod sweeping;
 mod telling;
 mod world;
 
+pub use applied::{Applied, Told};
 pub use world::World;
