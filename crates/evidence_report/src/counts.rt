@@ -49,9 +49,9 @@ pub fn stopped_by_all(verdicts: &[Verdict]) -> u64
     requires { stops_in verdicts.now < 2 ^ 64 }
     ensures { result ≡ stops_in verdicts.now }
 {
-    let mut stopped = 0;
+    let mut all = 0;
     for verdict in verdicts {
-        stopped += verdict.stops.len() as u64;
+        all += verdict.stops.len() as u64;
     }
-    stopped
+    all
 }

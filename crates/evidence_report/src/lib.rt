@@ -9,3 +9,6 @@ mod reports;
 mod text;
 
 pub use reports::report;
+
+#[cfg(test)]
+mod tests;

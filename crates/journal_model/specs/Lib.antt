@@ -5,6 +5,8 @@ pub mod Shapes
 pub mod Reading
 pub mod Report
 pub mod Verdicts
+pub mod Journals
 pub mod ReportExamples
 pub mod LimitExamples
 pub mod LineExamples
+pub mod JournalExamples

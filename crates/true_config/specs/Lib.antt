@@ -2,4 +2,5 @@ pub mod Applying
 pub mod Keeping
 pub mod Pairs
 pub mod Promises
+pub mod Readings
 pub mod Steps

@@ -13,7 +13,11 @@ mod moment;
 mod readers;
 mod sweeping;
 mod telling;
+mod working;
 mod world;
 
 pub use applied::{Applied, Told};
 pub use world::World;
+
+#[cfg(test)]
+mod tests;

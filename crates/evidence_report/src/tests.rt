@@ -1,0 +1,112 @@
+//! Reports of worked histories, with the verdicts that their sweeps find.
+ghost use Rattle.std.specs.Prelude.{◌≡◌, ◌≤◌, [], ◌∷◌, replicate, reverse, IfOk};
+ghost use Rattle.history_model.specs.declared.events.Event.TheVariants.{Sweep as Sweeps};
+ghost use Rattle.history_model.specs.Rows.{actor as numbered, cluster, dropped_child as child_dropped, two_nodes_lost_together};
+ghost use Rattle.history_model.specs.Sweeps.{IsVerdict};
+
+use crate::report;
+use crgc_ids::{ActorId, ActorList, Cut, NodeId, NodeSet};
+use history_model::{Event, History, Stop, StopList, Verdict};
+use std::alloc::Global;
+use std::test::Fail;
+
+const DROPPED_CHILD: &str =
+    "crgc 1 nodes 1\nseed 0\nwake 0.0\nspawn 0.0\ndrop 0.0 0.1\nrest 0.0\nflush 0.0\n\
+     flush 0.1\npublish 0\nhand 0 0 0\nsweep 0\ncut 0 1 lost\n\
+     stop 0.1 by 0 received 0 told 0 admitted 0 owners 0.1\nend events 10 stopped 1\n";
+
+const DROPPED_CHILD_BRIEF: &str =
+    "crgc 1 nodes 1\nnode 0 born 2 stopped 1\ntotal born 2 stopped 1\n";
+
+fn numbered_node(number: u8) -> Result<NodeId, Fail>
+    ensures { IfOk result (λ n. n ≡ number) }
+{
+    Ok(NodeId::new(number).ok_or("a node")?)
+}
+
+fn numbered_actor(node: NodeId, serial: u32) -> Result<ActorId, Fail>
+    ensures { IfOk result (λ a. a ≡ numbered node serial) }
+{
+    Ok(ActorId::new(node, serial).ok_or("an actor")?)
+}
+
+/// The history of the events, given in their order.
+fn history_of(alloc: Global, nodes: u8, events: Vec<Event>) -> Result<History, Fail>
+    requires some { 1 ≤ nodes }
+    requires nodes { nodes ≤ 16 }
+    ensures cluster { IfOk result (λ h. h.cluster ≡ cluster nodes 1) }
+    ensures past { IfOk result (λ h. h.past ≡ reverse events.items) }
+{
+    let mut history = History::new(alloc, nodes, 1);
+    for event in events {
+        history.push(event)?;
+    }
+    Ok(history)
+}
+
+/// A parent drops its only child, and a sweep stops the child.
+fn dropped_child(alloc: Global) -> Result<History, Fail>
+    ensures cluster { IfOk result (λ h. h.cluster ≡ cluster 1 1) }
+    ensures past { IfOk result (λ h. h.past ≡ Sweeps 0 ∷ child_dropped) }
+{
+    let node = numbered_node(0)?;
+    let parent = numbered_actor(node, 0)?;
+    let child = numbered_actor(node, 1)?;
+    let events = vec![in alloc;
+        Event::Seed { node },
+        Event::Wake { actor: parent },
+        Event::Spawn { parent },
+        Event::Drop {
+            actor: parent,
+            target: child
+        },
+        Event::Rest { actor: parent },
+        Event::Flush { actor: parent },
+        Event::Flush { actor: child },
+        Event::Publish { node },
+        Event::Hand {
+            to: node,
+            origin: node,
+            number: 0
+        },
+        Event::Sweep { node },
+    ]?;
+    history_of(alloc, 1, events)
+}
+
+/// What that sweep finds.
+fn dropped_child_found(alloc: Global) -> Result<Verdict, Fail>
+    ensures { IfOk result (λ v. IsVerdict (cluster 1 1) 0 child_dropped v) }
+{
+    let node = numbered_node(0)?;
+    let child = numbered_actor(node, 1)?;
+    let mut cut = Cut::zero();
+    cut.raise(node);
+    let mut owners = ActorList::new(alloc);
+    owners.push(child)?;
+    let mut stops = StopList::new(alloc);
+    stops.push(Stop {
+        actor: child,
+        received: 0,
+        told: 0,
+        admitted: 0,
+        owners,
+    })?;
+    Ok(Verdict {
+        node,
+        cut,
+        lost: NodeSet::empty(),
+        stops,
+    })
+}
+
+#[test]
+fn a_dropped_child_is_reported(rt: HostRuntime) -> Result<(), Fail> {
+    let history = dropped_child(rt.alloc())?;
+    let verdicts = [dropped_child_found(rt.alloc())?];
+    let full = report(rt.alloc(), &history, &verdicts, false)?;
+    assert_eq!(rt; full.as_slice(), DROPPED_CHILD.as_bytes());
+    let brief = report(rt.alloc(), &history, &verdicts, true)?;
+    assert_eq!(rt; brief.as_slice(), DROPPED_CHILD_BRIEF.as_bytes());
+    Ok(())
+}
