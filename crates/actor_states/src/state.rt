@@ -250,6 +250,14 @@ impl ActorState {
         Ok(())
     }
 
+    /// The entry that `flush` would give. Time in proportion to n log n for n facts.
+    pub fn copy_entry(&self) -> Result<Entry, NoMemory>
+        requires { IsTrue (has_news self.now) }
+        ensures { IfOk result (λ e. IsEntryOf self.now.log (flags_of self.now) e) }
+    {
+        self.log.copy_entry(self.busy, self.root)
+    }
+
     /// The entry of a flush: its log is then blank. Time in proportion to n log n for n facts, without memory.
     pub fn flush(&mut self) -> Entry
         requires { IsTrue (has_news self.old) }

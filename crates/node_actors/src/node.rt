@@ -384,6 +384,15 @@ impl NodeActors {
         dropped
     }
 
+    /// The entry that the actor's flush, which is due, would give. Time in proportion to n log n for n facts.
+    pub fn copy_entry(&self, actor: ActorId) -> Result<Entry, NoMemory>
+        requires there { IsThere self.now actor }
+        requires due { IsTrue (has_news (state_in self.now actor.serial)) }
+        ensures { IfOk result (λ e. IsEntryOf (state_in self.now actor.serial).log (flags_of (state_in self.now actor.serial)) e) }
+    {
+        self.actors[actor.serial() as usize].copy_entry()
+    }
+
     /// The entry of an actor's flush, which is due: its log is then blank. Logarithmic time in the number of actors, and in
     /// proportion to n log n for n facts, without memory.
     pub fn flush(&mut self, actor: ActorId) -> Entry

@@ -296,6 +296,15 @@ impl Roster {
         self.nodes[actor.node().get() as usize].drop_reference(actor, target)
     }
 
+    /// The entry that the actor's flush, which is due, would give. Time in proportion to n log n for n facts.
+    pub fn copy_entry(&self, actor: ActorId) -> Result<Entry, NoMemory>
+        requires here { IsHere self.now actor }
+        requires due { IsTrue (has_news (state_at self.now actor)) }
+        ensures { IfOk result (λ e. IsEntryOf (state_at self.now actor).log (flags_of (state_at self.now actor)) e) }
+    {
+        self.nodes[actor.node().get() as usize].copy_entry(actor)
+    }
+
     /// The entry of an actor's flush, which is due: its log is then blank. Logarithmic time in the number of the node's actors,
     /// and in proportion to n log n for n facts, without memory.
     pub fn flush(&mut self, actor: ActorId) -> Entry

@@ -88,7 +88,8 @@ grows-in_streams e old new t r s z adds may ranges is beside_it others stand =
 
 -- ---- events taken back
 
-same-story : (a b : Story) → a.cluster ≡ b.cluster → a.past ≡ b.past → a ≡ b
+-- a history is its constants and its events
+pub same-story : (a b : Story) → a.cluster ≡ b.cluster → a.past ≡ b.past → a ≡ b
 same-story a b cluster past = ap (λ cl. record { cluster = cl; past = a.past }) cluster ∙ ap (λ h. record { cluster = b.cluster; past = h }) past
 
 -- an event that is taken back leaves the history as it was

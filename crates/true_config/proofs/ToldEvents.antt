@@ -1,6 +1,6 @@
 -- What is told by windows, Finals and flushes.
-use Rattle.std.proofs.Common.{◌≡◌, ℕ, not, true, List, [], ◌∷◌, None, flat_map, length, refl, sym, ◌∙◌, ap, subst, arith}
-use Rattle.std.proofs.lemmas.Bool.{false≢true}
+use Rattle.std.proofs.Common.{◌≡◌, ◌==◌, ℕ, not, true, false, List, [], ◌∷◌, None, flat_map, length, refl, sym, ◌∙◌, ap, subst, arith}
+use Rattle.std.proofs.lemmas.Bool.{eqb-false, eqb-true, false≢true}
 use Rattle.crgc_ids.specs.Actor.{Actor}
 use Rattle.history_model.specs.declared.events.Event.{Event}
 use Rattle.history_model.specs.declared.events.Event.TheVariants.{Flush, Window}
@@ -27,8 +27,9 @@ use Rattle.roster.specs.Standing.{IsRosterOf, IsStateOf}
 use Rattle.roster.specs.Table.{Table, state_at}
 use Rattle.roster.proofs.Counting.{news-due}
 use Rattle.bulletin_streams.specs.Standing.{AreStreamsOf, StandAfter, TellsFlush, TellsLink}
-use Rattle.bulletin_streams.specs.StreamState.{AreAlike, StreamState}
-use Rattle.bulletin_streams.proofs.StandingLemmas.{alike-stand}
+use Rattle.bulletin_streams.specs.StreamState.{AreAlike, ChangesAt, IsAlike, Queues, StreamState, TakesBack, stream_at}
+use Rattle.bulletin_streams.proofs.StandingLemmas.{alike-stand, flush-stands as queued-stands}
+use Rattle.true_config.specs.Pairs.{QueuesCopy}
 
 -- a window that counts what was admitted on a link tells it
 link-told : (p : List Event) (w : records.Window) (s d : ℕ) → CountsSince s d p w → TellsLink p w
@@ -79,3 +80,29 @@ pub flush-due : (cl : Cluster) (p : List Event) (r : Table) (a : Actor) → IsRo
 flush-due cl p r a is legal =
     let kept = first_broken-none (checks cl (Flush a) p) legal in
     news-due cl p r is a ∙ kept.1.1.0
+
+-- the entry that a flush would give, once it is queued, tells the flush
+pub copy-stands : (cl : Cluster) (p : List Event) (a : Actor) (s : State) (old new : List StreamState) → IsStateOf cl p a s → QueuesCopy old new s → StandAfter cl (Flush a) p old new
+copy-stands cl p a s old new state copy =
+    flush-stands Flush cl p a s copy.entry old copy.roomy new state copy.entered copy.alike (λ tells. queued-stands cl p copy.entry copy.roomy new copy.queued tells)
+
+-- taken back, it leaves the queues as they were
+pub copy-undone : (s : State) (n : ℕ) (old mid kept new : List StreamState) → QueuesCopy old mid s → s.log.actor.node ≡ n → AreAlike mid kept → ChangesAt kept new n TakesBack → AreAlike old new
+copy-undone s n old mid kept new copy here same back m =
+    let whose : copy.entry.actor.node ≡ n = ap (λ (a : Actor). a.node) copy.entered.tells.0 ∙ here in
+    let queued = subst (λ k. ChangesAt copy.roomy mid k (λ x y. Queues x y copy.entry)) whose copy.queued in
+    let first = copy.alike in
+    let split = elim (m == n) as (λ v. (m == n) ≡ v → IsAlike (stream_at old m) (stream_at new m)) [
+      | true ↦ λ e. subst (λ k. IsAlike (stream_at old k) (stream_at new k)) (sym (eqb-true m n e)) (
+        back.changed.entries (stream_at copy.roomy n).entries copy.entry ((same n).0 ∙ queued.changed.entries) ∙ (first n).0,
+        back.changed.bulletins ∙ (same n).1 ∙ queued.changed.bulletins ∙ (first n).1,
+      )
+      | false ↦ λ e.
+          let apart = eqb-false m n e in
+          let last = back.others m apart in
+          let before = queued.others m apart in (
+            ap (λ (x : StreamState). x.entries) last ∙ (same m).0 ∙ ap (λ (x : StreamState). x.entries) before ∙ (first m).0,
+            ap (λ (x : StreamState). x.bulletins) last ∙ (same m).1 ∙ ap (λ (x : StreamState). x.bulletins) before ∙ (first m).1,
+          )
+    ] in
+    split refl

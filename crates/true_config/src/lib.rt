@@ -2,15 +2,21 @@
 #![tactic(auto)]
 
 mod acting;
+mod applied;
+mod both;
+mod flushing;
+mod lawful;
 mod limits;
 mod links;
 mod messages;
 mod moment;
 mod readers;
+mod sweeping;
 mod telling;
 mod working;
 mod world;
 
+pub use applied::{Applied, Told};
 pub use world::World;
 
 #[cfg(test)]

@@ -3,13 +3,30 @@ ghost use Rattle.std.specs.Prelude.{◌≡◌, ◌≢◌, None, nat_lt, IfOk};
 ghost use Rattle.history_model.specs.Legal.{refusal};
 ghost use Rattle.history_model.specs.Streams.{queue, window};
 ghost use Rattle.journal_model.specs.Limits.{limit_passed, named_count, passes_actors, passes_delta};
+ghost use Rattle.true_config.specs.Applying.{hindrance};
 
 use crate::World;
+use crate::applied::Applied;
 use crgc_ids::{NoMemory, NodeId, Which};
 use event_rules::refusal;
 use history_model::{Event, Rule};
 
 impl World {
+    /// What hinders the event: the first rule that it breaks, or else the limit that it would pass; None exactly where it may
+    /// follow. In the time of `refusal` and `limit`.
+    pub(crate) fn hindrance(&self, event: &Event) -> Result<Option<Applied>, NoMemory>
+        ensures { IfOk result (λ x. x ≡ hindrance self.now.cluster event.now self.now.past) }
+    {
+        if let Some(rule) = self.refusal(event) {
+            return Ok(Some(Applied::Illegal(rule)));
+        }
+        match self.limit(event) {
+            Ok(Some(which)) => Ok(Some(Applied::Limit(which))),
+            Ok(None) => Ok(None),
+            Err(_) => Err(NoMemory),
+        }
+    }
+
     /// The first rule that the event breaks; None exactly where it is legal. It asks at most seven times, and a send twice more
     /// for each reference.
     pub fn refusal(&self, event: &Event) -> Option<Rule>
