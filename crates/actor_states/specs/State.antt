@@ -3,7 +3,7 @@ use Rattle.std.specs.Prelude.{◌≡◌, ◌+◌, ◌<◌, ◌^◌, if◌then◌
 use Rattle.crgc_ids.specs.Actor.{Actor, same_actor}
 use Rattle.history_model.specs.Facts.{Fact, Flags, created, message_facts, received, released}
 use Rattle.refob_counts.specs.Counts.{CountTheSame, IsGain, count_of}
-use Rattle.entry_records.specs.Log.{Log, blank_log, flushed_log, log_with, may_flush, newborn_log}
+use Rattle.entry_records.specs.Log.{Log, blank_log, flushed_log, log_with, may_flush, newborn_log, without_last_message}
 use Rattle.entry_records.specs.Unflushed.{actor_count, pair_count}
 
 -- whether it is busy, and a root; the actor whose child it is; what it holds; its log; and whether it was stopped
@@ -75,6 +75,10 @@ Drops target old new = Gains new (noting (released old.log.actor target ∷ []) 
 -- it noted a message with these references that it sent
 abbrev pub Sends : Actor → List Actor → State → State → Type 0
 Sends to refs old new = new ≡ noting (message_facts (record { from = old.log.actor; to = to; refs = refs })) old
+
+-- the state without the last message that it noted as sent, which carried so many references
+abbrev pub unsent : ℕ → State → State
+unsent refs s = record s { log = without_last_message refs s.log }
 
 -- its log is blank, and has the flags of this flush
 abbrev pub Flushes : State → State → Type 0

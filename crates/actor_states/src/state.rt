@@ -7,7 +7,7 @@ ghost use Rattle.refob_counts.specs.Counts.{IsGain, count_of};
 ghost use Rattle.entry_records.specs.Log.{IsEntryOf};
 ghost use Rattle.entry_records.specs.Unflushed.{pair_count};
 ghost use Rattle.actor_states.specs.State.{Begets, DifferInHeld, Drops, Flushes, Gains, HasRoom, IsAlike, IsChild, IsSeed, Sends};
-ghost use Rattle.actor_states.specs.State.{Takes, child_refs, flags_of, has_news, is_this, noting};
+ghost use Rattle.actor_states.specs.State.{Takes, child_refs, flags_of, has_news, is_this, noting, unsent};
 
 use crgc_ids::{ActorId, NoMemory};
 use entry_records::ActorLog;
@@ -227,6 +227,14 @@ impl ActorState {
         ensures err { OnErr result (self.new ≡ self.old) }
     {
         self.log.note_sent(to, refs)
+    }
+
+    /// The last message that it noted as sent, with so many references, is taken back: where this undoes a `send`, it is as
+    /// before that. Constant time.
+    pub fn take_back_send(&mut self, refs: usize)
+        ensures { self.new ≡ unsent refs self.old }
+    {
+        self.log.take_back_sent(refs);
     }
 
     /// It gives up one reference to the target, of which it holds some. After `NoMemory` it is as before. Logarithmic time in

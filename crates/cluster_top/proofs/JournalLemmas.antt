@@ -8,7 +8,7 @@ use Rattle.std.specs.Prelude.{Option, None, is_some}
 use Rattle.history_model.specs.declared.events.Event.{Event}
 use Rattle.history_model.specs.declared.events.Rule.{Rule}
 use Rattle.crgc_ids.specs.declared.Which.{Which}
-use Rattle.event_lines.proofs.EventsLaws.{spell-injective}
+use Rattle.cluster_top.proofs.EventLines.{event-injective}
 use Rattle.history_model.specs.Cluster.{Cluster}
 use Rattle.history_model.specs.Legal.{refusal}
 use Rattle.journal_model.specs.Limits.{limit_passed}
@@ -22,13 +22,13 @@ some-not_none {A} o t e = let n = rw e at t in cc
 -- where the event of the line is refused, no event of the line is the next one
 pub next-refused : (cl : Cluster) (h : List Event) (line : List ℕ) (e : Event) (r : Option Rule) → IsWithinRanges e → event_line e ≡ line → r ≡ refusal cl e h → is_some r ≡ true → (f : Event) → IsNext cl h f → event_line f ≡ line → ⊥
 next-refused cl h line e r spells is answer some f next same =
-    let equal : f ≡ e = spell-injective f e next.ranges spells (same ∙ sym is) in
+    let equal : f ≡ e = event-injective f e next.ranges spells (same ∙ sym is) in
     some-not_none r some (answer ∙ sym (ap (λ x. refusal cl x h) equal) ∙ next.legal)
 
 -- where it would pass a limit, none is either
 pub next-limited : (cl : Cluster) (h : List Event) (line : List ℕ) (e : Event) (r : Option Which) → IsWithinRanges e → event_line e ≡ line → r ≡ limit_passed cl e h → is_some r ≡ true → (f : Event) → IsNext cl h f → event_line f ≡ line → ⊥
 next-limited cl h line e r spells is answer some f next same =
-    let equal : f ≡ e = spell-injective f e next.ranges spells (same ∙ sym is) in
+    let equal : f ≡ e = event-injective f e next.ranges spells (same ∙ sym is) in
     some-not_none r some (answer ∙ sym (ap (λ x. limit_passed cl x h) equal) ∙ next.limits)
 
 -- ---- lines that follow one another
@@ -51,7 +51,7 @@ next-of_lines cl h (e ∷ es) [] line lines follow follow' same = absurd (cc)
 next-of_lines cl h (e ∷ es) (f ∷ fs) line lines follow follow' same =
     let first : event_line e ≡ event_line f = cc in
     let rest : map event_line es ++ line ∷ lines ≡ map event_line fs = cc in
-    let equal : e ≡ f = spell-injective e f follow.0.ranges follow'.0.ranges first in
+    let equal : e ≡ f = event-injective e f follow.0.ranges follow'.0.ranges first in
     next-of_lines cl (e ∷ h) es fs line lines follow.1 (subst (λ (x : Event). MayFollow cl (x ∷ h) fs) (sym equal) follow'.1) rest
 
 -- what was followed after some lines

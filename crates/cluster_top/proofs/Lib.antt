@@ -1,4 +1,5 @@
 pub mod LinesLemmas
+pub mod EventLines
 pub mod JournalLemmas
 pub mod FollowedLemmas
 pub mod WordsLemmas

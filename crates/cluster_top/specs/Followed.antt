@@ -1,6 +1,8 @@
 -- What is kept while a journal is followed.
 use Rattle.std.specs.Prelude.{ℕ, ◌≡◌, ◌≤◌, ◌∷◌, List, length, Option, Some, None}
 use Rattle.history_model.specs.declared.events.Event.{Event}
+use Rattle.journal_model.specs.declared.lines.Line.{Line}
+use Rattle.journal_model.specs.declared.lines.Line.TheVariants as lines
 use Rattle.history_model.specs.declared.events.Event.TheVariants.{Sweep}
 use Rattle.history_model.specs.Story.{Story}
 use Rattle.journal_model.specs.Lines.{header_line, text_of}
@@ -18,3 +20,8 @@ pub record IsFollowed (s : Story) (text : List ℕ) (stops : ℕ) : Type 0 where
 abbrev pub sweep_of : Event → Option ℕ
 sweep_of (Sweep n) = Some n
 sweep_of _ = None
+
+-- the event that a line says
+abbrev pub event_in : Line → Option Event
+event_in (lines.Event e) = Some e
+event_in _ = None

@@ -1,15 +1,15 @@
 //! Following a journal line by line: the history so far, and its report so far.
-ghost use Rattle.std.specs.Prelude.{◌≡◌, ◌+◌, ◌≤◌, ◌∷◌, ◌++◌, [], length, Err, IfOk, OnOk};
+ghost use Rattle.std.specs.Prelude.{◌≡◌, ◌+◌, ◌≤◌, ◌∷◌, ◌++◌, [], length, Err, IfOk, MatchOption, OnOk};
 ghost use Rattle.history_model.specs.declared.events.Event.{Event as AnyEvent};
-ghost use Rattle.journal_model.specs.Lines.{text_of, event_line};
+ghost use Rattle.journal_model.specs.Lines.{text_of, event_line, IsWithinRanges};
 ghost use Rattle.journal_model.specs.Report.{report_of, verdict_lines};
 ghost use Rattle.history_model.specs.Sweeps.{stopped_by};
-ghost use Rattle.cluster_top.specs.Followed.{sweep_of};
+ghost use Rattle.cluster_top.specs.Followed.{event_in, sweep_of};
 ghost use Rattle.cluster_top.specs.Journal.{IsNext, IsPlayable};
 
 use crate::play_fault::PlayFault;
 use crgc_ids::{NoMemory, NodeId};
-use event_lines::{append_end, append_event, append_header, append_verdict, read_event};
+use event_lines::{Line, LineRead, append_end, append_event, append_header, append_verdict, read};
 use history_model::{Event, History};
 use plain_world::{is_built_form, passed_limit, refusal_of, verdict};
 use std::alloc::Global;
@@ -72,7 +72,7 @@ impl Followed {
         ensures refused { result ≡ Err PlayFault.Unbuilt
             → (e : AnyEvent) → IsNext self.now.cluster self.now.past e → event_line e ≡ line.now → ⊥ }
     {
-        let Some(event) = read_event(alloc, line)? else {
+        let Some(event) = event_of(alloc, line)? else {
             return Err(PlayFault::Unbuilt);
         };
         if !is_built_form(&event) {
@@ -123,6 +123,29 @@ impl Followed {
         } = self;
         append_end(history.len() as u64, stopped, &mut report)?;
         Ok(report)
+    }
+}
+
+// The event that the line spells; None exactly where it spells none.
+fn event_of(alloc: Global, line: &[u8]) -> Result<Option<Event>, NoMemory>
+    ensures { IfOk result (λ o. MatchOption o
+        ((e : AnyEvent) → IsWithinRanges e → event_line e ≡ line.now → ⊥)
+        (λ e. IsWithinRanges e × (event_line e ≡ line.now))) }
+{
+    match read(alloc, line) {
+        Ok(said) => Ok(event_in(said)),
+        Err(LineRead::Fault(_)) => Ok(None),
+        Err(LineRead::NoMemory) => Err(NoMemory),
+    }
+}
+
+// The event that a line says.
+fn event_in(line: Line) -> Option<Event>
+    ensures { result ≡ event_in line }
+{
+    match line {
+        Line::Event(event) => Some(event),
+        _ => None,
     }
 }
 

@@ -1,7 +1,10 @@
 -- Which edges are listed at a place.
-use Rattle.std.proofs.Common.{◌≡◌, ◌+◌, ◌<◌, ◌↔◌, ℕ, zero, suc, Bool, true, false, cond, List, [], ◌∷◌, eqb, length, get_or, map, refl, sym, ◌∙◌, ap, subst, inl, inr, arith}
-use Rattle.std.proofs.lemmas.Bool.{eq-eqb, eqb-true}
+use Rattle.std.proofs.Common.{◌≡◌, ◌+◌, ◌<◌, ◌≤◌, ◌↔◌, ℕ, zero, suc, Bool, true, false, cond, List, [], ◌∷◌, eqb, length, get_or, map, refl, sym, ◌∙◌, ap, subst, inl, inr, arith}
+use Rattle.std.proofs.lemmas.Bool.{eq-eqb, eqb-true, ne_eqb}
 use Rattle.std.proofs.lemmas.List.{length-map}
+use Rattle.std.specs.List.{IsDistinct}
+use Rattle.std.specs.Prelude.{nat_eq}
+use Rattle.crgc_ids.proofs.MembersLaws.{all-from_members}
 use Rattle.crgc_ids.specs.Members.{IsAmong}
 use Rattle.edge_table.specs.Ends.{numbers_of}
 use Rattle.edge_table.specs.Table.{no_edge}
@@ -37,6 +40,32 @@ numbers-back p k (suc i) (x ∷ xs) inside is =
     let next : (k + 1) + i ≡ k + suc i = omega arith in
     let later : IsAmong (k + suc i) (numbers_of p (k + 1) xs) = subst (λ n. IsAmong n (numbers_of p (k + 1) xs)) next (numbers-back p (k + 1) i xs (omega arith) is) in
     elim (eqb p x) as (λ b. IsAmong (k + suc i) (cond b (k ∷ numbers_of p (k + 1) xs) (numbers_of p (k + 1) xs))) [ true ↦ inr later | false ↦ later ]
+
+-- no number is one of a place's twice
+pub numbers-distinct : (p k : ℕ) (xs : List ℕ) → IsDistinct nat_eq (numbers_of p k xs)
+unfolding IsDistinct
+numbers-distinct p k [] = tt
+numbers-distinct p k (x ∷ xs) =
+    let later = numbers-distinct p (k + 1) xs in
+    let apart : (n : ℕ) → IsAmong n (numbers_of p (k + 1) xs) → nat_eq k n ≡ false = λ n h. (
+    let there = numbers-there p (k + 1) n xs h in
+    let is = there.1 in
+    ne_eqb k n (λ e. absurd (omega arith))
+    ) in
+    elim (eqb p x) as (λ b. IsDistinct nat_eq (cond b (k ∷ numbers_of p (k + 1) xs) (numbers_of p (k + 1) xs))) [
+      | true ↦ (all-from_members (λ n. nat_eq k n ≡ false) (numbers_of p (k + 1) xs) apart, later)
+      | false ↦ later
+    ]
+
+-- they are no more than the places in the list
+pub numbers-few : (p k : ℕ) (xs : List ℕ) → length (numbers_of p k xs) ≤ length xs
+numbers-few p k [] = omega arith
+numbers-few p k (x ∷ xs) =
+    let later = numbers-few p (k + 1) xs in
+    elim (eqb p x) as (λ b. length (cond b (k ∷ numbers_of p (k + 1) xs) (numbers_of p (k + 1) xs)) ≤ suc (length xs)) [
+      | true ↦ omega arith
+      | false ↦ omega arith
+    ]
 
 -- so an edge is listed at a place where its end is the place
 pub listed : (end : Edge → ℕ) → end no_edge ≡ 0 → (edges : List Edge) (place number : ℕ) → IsAmong number (numbers_of place 0 (map end edges)) ↔ ((number < length edges) × (end (get_or edges number no_edge) ≡ place))

@@ -64,6 +64,7 @@ impl EdgeTable {
     pub fn edge_count(&self) -> u32
         ensures value { result ≡ length self.now.edges }
         ensures long { length self.now.edges ≡ length self.now.pairs }
+        ensures distinct { IsDistinct same_pair self.now.pairs }
     {
         self.edges.len() as u32
     }
@@ -202,7 +203,8 @@ impl EdgeTable {
     /// The numbers of the edges from the place, rising.
     pub fn edges_from(&self, place: u32) -> &[u32]
         requires { place < self.now.places }
-        ensures { result.now ≡ edges_from self.now.edges place }
+        ensures numbers { result.now ≡ edges_from self.now.edges place }
+        ensures few { length result.now < 2 ^ 32 }
     {
         self.places[place as usize].from()
     }
@@ -210,7 +212,8 @@ impl EdgeTable {
     /// The numbers of the edges to the place, rising.
     pub fn edges_to(&self, place: u32) -> &[u32]
         requires { place < self.now.places }
-        ensures { result.now ≡ edges_to self.now.edges place }
+        ensures numbers { result.now ≡ edges_to self.now.edges place }
+        ensures few { length result.now < 2 ^ 32 }
     {
         self.places[place as usize].to()
     }

@@ -1,7 +1,7 @@
 -- Rows that keep one fact more, or all references of a message, and what they add up to.
-use Rattle.std.proofs.Common.{◌≡◌, ◌+◌, ◌<◌, ◌^◌, ◌&&◌, ℕ, Bool, true, false, cond, List, [], ◌∷◌, ◌++◌, map, refl, sym, ◌∙◌, ap, subst, arith}
+use Rattle.std.proofs.Common.{◌≡◌, ◌+◌, ◌<◌, ◌≤◌, ◌^◌, ◌&&◌, ℕ, zero, suc, take, drop, Bool, true, false, cond, List, [], ◌∷◌, ◌++◌, map, refl, sym, ◌∙◌, ap, subst, arith}
 use Rattle.std.proofs.ByRecursion.{All-append, All-push}
-use Rattle.std.proofs.lemmas.List.{map-append}
+use Rattle.std.proofs.lemmas.List.{map-append, take-append-drop, take-map}
 use Rattle.std.proofs.lemmas.List.Sums.{sum_by-append, sum_by-cons}
 use Rattle.std.specs.List.{AllByRecursion, count_by}
 use Rattle.crgc_ids.specs.Actor.{Actor, same_actor}
@@ -17,6 +17,20 @@ use Rattle.entry_records.specs.Unflushed.{actor_count, actors_in, pair_count, pa
 pub either-same : {X : Type 0} (b : Bool) (x : X) → x ≡ cond b x x
 either-same true x = refl
 either-same false x = refl
+
+-- ---- the first items of a list
+
+all-first : {X : Type 0} (P : X → Type 0) (n : ℕ) (xs : List X) → AllByRecursion P xs → AllByRecursion P (take n xs)
+all-first P zero xs all = tt
+all-first P (suc n) [] all = tt
+all-first P (suc n) (x ∷ xs) all = (all.0, all-first P n xs all.1)
+
+-- they count no more than all
+count-first : {X : Type 0} (p : X → Bool) (n : ℕ) (xs : List X) → count_by p (take n xs) ≤ count_by p xs
+count-first p n xs =
+    let joined = sum_by-append (λ x. cond (p x) 1 0) (take n xs) (drop n xs) in
+    let whole = ap (count_by p) (take-append-drop n xs) in
+    omega arith
 
 -- ---- actors
 
@@ -39,6 +53,18 @@ actors-push rows a kept fits =
 pub actors-pushed : (ok : Bool) (rows rows' : List ActorCount) (a : Actor) → KeepActors rows → actor_count a (actors_in rows) + 1 < 2 ^ 32 → rows' ≡ cond ok (rows ++ one_actor a ∷ []) rows → KeepActors rows'
 actors-pushed true rows rows' a kept fits e = subst KeepActors (sym e) (actors-push rows a kept fits)
 actors-pushed false rows rows' a kept fits e = subst KeepActors (sym e) kept
+
+-- the first actors alone
+pub actors-first : (n : ℕ) (rows : List ActorCount) → KeepActors rows → KeepActors (take n rows)
+actors-first n rows kept = record {
+  once = all-first (λ r. r.count ≡ 1) n rows kept.once;
+  fit = λ b. (
+      let moved = ap (actor_count b) (sym (take-map (λ (r : ActorCount). r.actor) n rows)) in
+      let fewer = count-first (same_actor b) n (actors_in rows) in
+      let before = kept.fit b in
+      omega arith
+      );
+}
 
 -- the rows count each actor as often as it comes
 pub actors-total : (rows : List ActorCount) → KeepActors rows → (a : Actor) → actor_total a rows ≡ actor_count a (actors_in rows)
@@ -106,6 +132,18 @@ pairs-push rows b a kept fits = pairs-more rows b (a ∷ []) kept (λ t. (
 pub pairs-pushed : (ok : Bool) (rows rows' : List PairCount) (b a : Actor) → KeepPairs rows → pair_count b a (pairs_in rows) + 1 < 2 ^ 32 → rows' ≡ cond ok (rows ++ one_pair b a ∷ []) rows → KeepPairs rows'
 pairs-pushed true rows rows' b a kept fits e = subst KeepPairs (sym e) (pairs-push rows b a kept fits)
 pairs-pushed false rows rows' b a kept fits e = subst KeepPairs (sym e) kept
+
+-- the first pairs alone
+pub pairs-first : (n : ℕ) (rows : List PairCount) → KeepPairs rows → KeepPairs (take n rows)
+pairs-first n rows kept = record {
+  once = all-first (λ r. r.count ≡ 1) n rows kept.once;
+  fit = λ b a. (
+      let moved = ap (pair_count b a) (sym (take-map (λ (r : PairCount). (r.owner, r.target)) n rows)) in
+      let fewer = count-first (λ p. same_actor b p.0 && same_actor a p.1) n (pairs_in rows) in
+      let before = kept.fit b a in
+      omega arith
+      );
+}
 
 -- the rows count each pair as often as it comes
 pub pairs-total : (rows : List PairCount) → KeepPairs rows → (b a : Actor) → pair_total b a rows ≡ pair_count b a (pairs_in rows)

@@ -1,6 +1,8 @@
 -- Logs with several facts more, blank logs, and the log of an actor in a history.
-use Rattle.std.proofs.Common.{◌≡◌, ◌==◌, ◌&&◌, ◌||◌, ℕ, zero, suc, Bool, true, false, cond, not, List, [], ◌∷◌, ◌++◌, length, map, flat_map, replicate, refl, sym, ◌∙◌, ap, ap₂, subst, inl, inr, arith, append_assoc, append-nil}
+use Rattle.std.proofs.Common.{◌≡◌, ◌-◌, ◌==◌, ◌&&◌, ◌||◌, ℕ, zero, suc, take, length-append, Bool, true, false, cond, not, List, [], ◌∷◌, ◌++◌, length, map, flat_map, replicate, refl, sym, ◌∙◌, ap, ap₂, subst, inl, inr, arith, append_assoc, append-nil}
+use Rattle.std.proofs.Math.Seq.{take-append_seam}
 use Rattle.std.proofs.lemmas.Bool.{false_from_ne_true}
+use Rattle.std.proofs.lemmas.List.{length-map}
 use Rattle.std.proofs.lemmas.Bool.Decides.{Decides-eqb}
 use Rattle.std.specs.List.{AllByRecursion}
 use Rattle.std.specs.Prelude.{Some}
@@ -14,9 +16,10 @@ use Rattle.history_model.specs.declared.events.Event.TheVariants.{Flush}
 use Rattle.history_model.specs.declared.records.Entry.{Entry}
 use Rattle.history_model.specs.Cluster.{Cluster}
 use Rattle.history_model.specs.Facts as facts
-use Rattle.history_model.specs.Facts.{Fact, Flags, Note, note_by, notes}
+use Rattle.history_model.specs.Facts.{Fact, Flags, Note, message_facts, note_by, notes}
 use Rattle.history_model.specs.Graph.{named_by}
 use Rattle.history_model.specs.Ledgers.{CountAlike, Ledger, entry_ledger, fact_counts, ledger_counts}
+use Rattle.history_model.specs.Messages.{Message}
 use Rattle.history_model.specs.Streams.{are_flags, can_flush, facts_by, flags_at, flushed_flags, is_blank, is_flush_of, log}
 use Rattle.history_model.specs.Tells.{TellsEntry}
 use Rattle.history_model.proofs.Basics.{same_actor-equal}
@@ -26,7 +29,7 @@ use Rattle.history_model.proofs.TellsBulletins.{ledger-same}
 use Rattle.history_model.proofs.TellsCounts.{alike-back, alike-both, alike-same, alike-then, both, facts-both}
 use Rattle.history_model.proofs.TellsNames.{facts-named, named-alike}
 use Rattle.entry_records.specs.Log.{IsEntryOf, IsLogAt, IsLogOf, MayNote, Log, log_facts, log_with, may_flush}
-use Rattle.entry_records.specs.Unflushed.{Unflushed, facts_noted, is_nothing, with_facts}
+use Rattle.entry_records.specs.Unflushed.{Unflushed, facts_noted, is_nothing, with_facts, without_last_sent}
 use Rattle.entry_records.proofs.CountLemmas.{log-next_fact}
 use Rattle.entry_records.proofs.EntryLemmas.{own_row}
 
@@ -36,6 +39,21 @@ with-references to [] n = λ i. record n { created = sym (append-nil n.created) 
 with-references to (a ∷ refs) n =
     with-references to refs (record n { created = n.created ++ (to, a) ∷ [] })
     ∙ (λ i. record n { created = append_assoc n.created ((to, a) ∷ []) (map (λ b. (to, b)) refs) i })
+
+-- the last message is taken back
+pub message-taken_back : (m : Message) (n : Unflushed) → without_last_sent (length m.refs) (with_facts (message_facts m) n) ≡ n
+message-taken_back m n =
+    let pairs = map (λ a. (m.to, a)) m.refs in
+    let sent : take (length (n.sent ++ m.to ∷ []) - 1) (n.sent ++ m.to ∷ []) ≡ n.sent = first-of n.sent (m.to ∷ []) 1 refl in
+    let created : take (length (n.created ++ pairs) - length m.refs) (n.created ++ pairs) ≡ n.created = first-of n.created pairs (length m.refs) (length-map m.refs (λ a. (m.to, a))) in
+    ap (without_last_sent (length m.refs)) (with-references m.to m.refs (record n { sent = n.sent ++ m.to ∷ [] }))
+    ∙ (λ i. record n { sent = sent i; created = created i })
+  where
+    first-of : {X : Type 0} (xs ys : List X) (k : ℕ) → length ys ≡ k → take (length (xs ++ ys) - k) (xs ++ ys) ≡ xs
+    first-of xs ys k long =
+        let joined = length-append xs ys in
+        let short : length (xs ++ ys) - k ≡ length xs = omega arith in
+        ap (λ j. take j (xs ++ ys)) short ∙ take-append_seam xs ys
 
 -- a log that counts what facts say goes on to do so with these facts more
 pub log-facts : (known more : List Fact) (l : Log) → IsLogOf known l → AllByRecursion (MayNote l.actor) more → IsLogOf (known ++ more) (log_with more l)

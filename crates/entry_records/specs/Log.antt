@@ -1,5 +1,5 @@
 -- What contracts see of an actor's log.
-use Rattle.std.specs.Prelude.{◌≡◌, ◌||◌, Bool, not, List, [], ◌∷◌, Option, Some, None}
+use Rattle.std.specs.Prelude.{◌≡◌, ◌||◌, ℕ, Bool, not, List, [], ◌∷◌, Option, Some, None}
 use Rattle.crgc_ids.specs.Actor.{Actor}
 use Rattle.history_model.specs.declared.events.Event.{Event}
 use Rattle.history_model.specs.declared.records.Entry.{Entry}
@@ -8,7 +8,7 @@ use Rattle.history_model.specs.Facts.{Fact, Flags, created, flagged, received, r
 use Rattle.history_model.specs.Ledgers.{CountAlike, IsInOrder, entry_ledger, fact_counts}
 use Rattle.history_model.specs.Streams.{are_flags, flushed_flags, is_blank, log}
 use Rattle.history_model.specs.Tells.{TellsEntry}
-use Rattle.entry_records.specs.Unflushed.{Unflushed, facts_noted, nothing_unflushed, with_facts}
+use Rattle.entry_records.specs.Unflushed.{Unflushed, facts_noted, nothing_unflushed, with_facts, without_last_sent}
 
 -- whose log it is, what was noted since the last flush, and the flags of that flush: None where the actor was never flushed
 pub record Log : Type 0 where
@@ -23,6 +23,10 @@ log_facts l = facts_noted l.actor l.noted
 -- the log with these facts more
 abbrev pub log_with : List Fact → Log → Log
 log_with facts l = record l { noted = with_facts facts l.noted }
+
+-- the log without the last message that it noted as sent, which carried so many references
+abbrev pub without_last_message : ℕ → Log → Log
+without_last_message refs l = record l { noted = without_last_sent refs l.noted }
 
 -- a log that was never flushed, in which nothing is noted
 abbrev pub blank_log : Actor → Log

@@ -1,5 +1,5 @@
 -- What an actor noted since its last flush.
-use Rattle.std.specs.Prelude.{◌+◌, ◌==◌, ◌&&◌, ◌++◌, ℕ, Bool, List, [], ◌∷◌, count_by, length, map, replicate}
+use Rattle.std.specs.Prelude.{◌+◌, ◌-◌, ◌==◌, ◌&&◌, ◌++◌, ℕ, Bool, List, [], ◌∷◌, count_by, length, map, replicate, take}
 use Rattle.crgc_ids.specs.Actor.{Actor, same_actor}
 use Rattle.crgc_ids.specs.declared.rising.ActorCount.{ActorCount}
 use Rattle.crgc_ids.specs.declared.rising.PairCount.{PairCount}
@@ -32,6 +32,13 @@ with_fact (facts.flagged a g) n = n
 abbrev pub with_facts : List facts.Fact → Unflushed → Unflushed
 with_facts [] n = n
 with_facts (f ∷ fs) n = with_facts fs (with_fact f n)
+
+-- what was noted without the last message that was sent, which carried so many references
+abbrev pub without_last_sent : ℕ → Unflushed → Unflushed
+without_last_sent refs n = record n {
+  sent = take (length n.sent - 1) n.sent;
+  created = take (length n.created - refs) n.created;
+}
 
 -- the facts that the actor noted, kind by kind
 abbrev pub facts_noted : Actor → Unflushed → List facts.Fact

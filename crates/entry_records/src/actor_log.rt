@@ -4,7 +4,7 @@ ghost use Rattle.std.specs.Bool.{beq};
 ghost use Rattle.crgc_ids.specs.Actor.{Actor, same_actor};
 ghost use Rattle.history_model.specs.Facts.{created, message_facts, received, released};
 ghost use Rattle.history_model.specs.Streams.{are_flags};
-ghost use Rattle.entry_records.specs.Log.{IsEntryOf, flushed_log, log_with, may_flush, newborn_log};
+ghost use Rattle.entry_records.specs.Log.{IsEntryOf, flushed_log, log_with, may_flush, newborn_log, without_last_message};
 ghost use Rattle.entry_records.specs.Unflushed.{actor_count, pair_count};
 
 use crate::notes::Notes;
@@ -96,6 +96,14 @@ impl ActorLog {
         ensures err { OnErr result (self.new ≡ self.old) }
     {
         self.notes.add_sent(to, refs)
+    }
+
+    /// The last message that the actor noted as sent, with so many references, is taken back: where this undoes a `note_sent`,
+    /// the log is as before it. Constant time.
+    pub fn take_back_sent(&mut self, refs: usize)
+        ensures { self.new ≡ without_last_message refs self.old }
+    {
+        self.notes.take_back_sent(refs);
     }
 
     /// The actor gave up a reference to the target; after `NoMemory` all is as before. Amortized constant time.

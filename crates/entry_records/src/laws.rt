@@ -1,16 +1,17 @@
 //! The laws of logs: what ties them to facts and to the history. Each function does nothing, and its contract is the law.
-ghost use Rattle.std.specs.Prelude.{◌≡◌, ◌==◌, ◌++◌, [], ◌∷◌, if◌then◌else◌, ℕ, false, List, IsTrue, None, Some};
+ghost use Rattle.std.specs.Prelude.{◌≡◌, ◌==◌, ◌++◌, [], ◌∷◌, if◌then◌else◌, ℕ, false, List, IsTrue, None, Some, length};
 ghost use Rattle.std.specs.List.{AllByRecursion};
 ghost use Rattle.crgc_ids.specs.Actor.{Actor};
 ghost use Rattle.history_model.specs.declared.events.Event.{Event};
 ghost use Rattle.history_model.specs.declared.events.Event.TheVariants.{Flush, Seed, Spawn};
 ghost use Rattle.history_model.specs.declared.records.Entry.{Entry};
 ghost use Rattle.history_model.specs.Cluster.{Cluster, is_born, newborn};
-ghost use Rattle.history_model.specs.Facts.{Fact, Flags, created, flagged, is_created, is_received, is_released, is_sent_to, notes};
+ghost use Rattle.history_model.specs.Facts.{Fact, Flags, created, flagged, is_created, is_received, is_released, is_sent_to, message_facts, notes};
+ghost use Rattle.history_model.specs.Messages.{Message};
 ghost use Rattle.history_model.specs.Streams.{can_flush, entry, facts_by, flags_at, is_flush_of};
 ghost use Rattle.history_model.specs.Tally.{tally};
 ghost use Rattle.history_model.specs.Tells.{TellsEntry};
-ghost use Rattle.entry_records.specs.Log.{IsEntryOf, IsLogAt, IsLogOf, MayNote, Log, birth_facts, blank_log, flushed_log, log_with, may_flush};
+ghost use Rattle.entry_records.specs.Log.{IsEntryOf, IsLogAt, IsLogOf, MayNote, Log, birth_facts, blank_log, flushed_log, log_with, may_flush, without_last_message};
 ghost use Rattle.entry_records.specs.Unflushed.{actor_count, pair_count};
 
 /// A blank log counts no facts. A log that counts what facts say counts these and more where more are noted that its actor
@@ -22,6 +23,11 @@ pub fn a_log_counts_what_is_noted()
     ensures entry { (l : Log) (known : List Fact) (flags : Flags) (e : Entry) → IsLogOf known l → IsEntryOf l flags e
         → TellsEntry l.actor e (flagged l.actor flags ∷ known) }
     ensures one { (l : Log) (flags : Flags) (e f : Entry) → IsEntryOf l flags e → IsEntryOf l flags f → e ≡ f }
+{}
+
+/// A message that was noted as sent, and is then taken back, leaves the log as it was before.
+pub fn a_message_taken_back_was_not_noted()
+    ensures { (l : Log) (m : Message) → without_last_message (length m.refs) (log_with (message_facts m) l) ≡ l }
 {}
 
 /// What a log counts is what its facts count: so where these fit, so do the log's counts.

@@ -4,7 +4,7 @@ ghost use Rattle.crgc_ids.specs.Actor.{Actor, same_actor};
 ghost use Rattle.history_model.specs.Facts.{flagged};
 ghost use Rattle.history_model.specs.Ledgers.{IsInOrder, entry_ledger};
 ghost use Rattle.history_model.specs.Tells.{TellsEntry};
-ghost use Rattle.entry_records.specs.Unflushed.{actor_count, facts_noted, is_nothing, nothing_unflushed, pair_count};
+ghost use Rattle.entry_records.specs.Unflushed.{actor_count, facts_noted, is_nothing, nothing_unflushed, pair_count, without_last_sent};
 
 use crgc_ids::{ActorCount, ActorId, NoMemory, PairCount};
 use history_model::Entry;
@@ -79,6 +79,16 @@ impl Notes {
         });
         put_pairs(&mut self.created, to, refs);
         Ok(())
+    }
+
+    /// The last message that was sent, with so many references, is taken back: it is not noted any more.
+    pub fn take_back_sent(&mut self, refs: usize)
+        ensures { self.new ≡ without_last_sent refs self.old }
+    {
+        let sent = self.sent.len().saturating_sub(1);
+        self.sent.truncate(sent);
+        let created = self.created.len().saturating_sub(refs);
+        self.created.truncate(created);
     }
 
     /// A reference to the target was made for the owner; after `NoMemory` all is as before.

@@ -55,7 +55,7 @@ fn a_child_tells_both_references_of_its_birth(rt: HostRuntime) -> Result<(), Fai
 }
 
 // A cycle over two nodes: an owner takes a message that carries a reference to the other owner's child, sends that child a
-// reference to its own one, and gives up what it held.
+// reference to its own one, and gives up what it held. One more message is taken back.
 #[test]
 fn an_owner_of_a_cycle_tells_what_it_sent(rt: HostRuntime) -> Result<(), Fail> {
     let child = actor(0, 1)?;
@@ -65,6 +65,8 @@ fn an_owner_of_a_cycle_tells_what_it_sent(rt: HostRuntime) -> Result<(), Fail> {
     log.note_created(child, owner)?;
     log.note_received();
     log.note_sent(child, [other, other].as_slice())?;
+    log.note_sent(other, [child].as_slice())?;
+    log.take_back_sent(1);
     assert!(rt; log.can_flush(false, true));
     let entry = log.copy_entry(false, true)?;
     assert_eq!(rt;

@@ -16,8 +16,8 @@ use Rattle.std.specs.Str.{bytes_eq}
 use Rattle.std.specs.Str.Parse.{AllDigits, digits_value}
 use Rattle.crgc_ids.specs.Actor.{Actor, IsActor}
 use Rattle.journal_model.specs.Lines.{actor_word}
-use Rattle.event_lines.specs.Fields.{actor_of, actor_of_parts, first_actor, first_number, number_of}
-use Rattle.event_lines.specs.Pieces.{nothing_left, pieces}
+use Rattle.journal_model.specs.Fields.{actor_of, actor_of_parts, first_actor, first_number, number_of}
+use Rattle.journal_model.specs.Fields.{nothing_left, pieces}
 use Rattle.event_lines.proofs.PiecesLaws.{IsFreeOf, join-pieces, pieces-join}
 
 -- a number below the limit is read from its spelling

@@ -2,31 +2,21 @@
 use Rattle.std.proofs.Common.{◌≡◌, ◌≤◌, ◌||◌, ◌≢◌, ℕ, Bool, true, false, cond, eqb, List, [], ◌∷◌, drop, Option, Some, None, codes, refl, sym, ◌∙◌, ap, subst, arith}
 use Rattle.std.proofs.lemmas.Bool.{eq-eqb, false≢true, ne_eqb}
 use Rattle.std.proofs.lemmas.Option.{none-some, same_Some, option_and_then_some}
-use Rattle.std.proofs.lemmas.Slice.Eq.{bytes_eq-Decides}
 use Rattle.std.specs.Fmt.{decimal}
 use Rattle.std.specs.List.{AllByRecursion}
 use Rattle.std.specs.Option.{MatchOption}
-use Rattle.std.specs.Str.{bytes_eq}
 use Rattle.journal_model.specs.Lines.{header_words, spell, header_line}
-use Rattle.event_lines.specs.Fields.{first_name}
-use Rattle.event_lines.specs.Pieces.{pieces}
-use Rattle.event_lines.specs.Shapes.{header_numbers}
-use Rattle.event_lines.proofs.EventsLaws.{free_bytes}
+use Rattle.journal_model.specs.Fields.{pieces}
+use Rattle.event_lines.specs.Header.{header_numbers}
+use Rattle.event_lines.proofs.FreeLaws.{free_bytes}
 use Rattle.event_lines.proofs.FieldsLaws.{decimal-free, first_number-some, nothing_left-some, number_of-decimal}
 use Rattle.event_lines.proofs.PiecesLaws.{IsFreeOf, join-pieces, pieces-join}
+use Rattle.event_lines.proofs.ShapesLaws.{first_name-some}
 
 -- the numbers are in range and their header is the line
 abbrev pub IsHeader : ℕ → ℕ → List ℕ → Type 0
 IsHeader nodes version line =
     (1 ≤ nodes) × (nodes ≤ 16) × (1 ≤ version) × (version ≤ 2) × (header_line (record { nodes = nodes; version = version }) ≡ line)
-
-chosen_name : (b : Bool) (u : Unit {0}) → cond b (Some tt) None ≡ Some u → b ≡ true
-chosen_name true u e = refl
-chosen_name false u e = absurd (none-some u e)
-
-first_name-some : (text : List ℕ) (ws : List (List ℕ)) (u : Unit {0}) → first_name text ws ≡ Some u → ws ≡ text ∷ drop 1 ws
-first_name-some text [] u e = absurd (none-some u e)
-first_name-some text (w ∷ ws) u e = ap (λ v. v ∷ ws) ((bytes_eq-Decides w text).0 (chosen_name (bytes_eq w text) u e))
 
 in_range : (a b : Bool) (n v : ℕ) (r : ℕ × ℕ) → eqb n 0 ≡ a → eqb v 0 ≡ b → cond (a || b) None (Some (n, v)) ≡ Some r → (n ≢ 0) × (v ≢ 0) × ((n, v) ≡ r)
 in_range true b n v r ea eb e = absurd (none-some r e)

@@ -1,7 +1,9 @@
 pub mod PiecesLaws
 pub mod FieldsLaws
+pub mod ListsLaws
 pub mod ShapesLaws
-pub mod EventsLaws
+pub mod FreeLaws
+pub mod LinesLaws
 pub mod WordsLaws
 pub mod MembersLaws
 pub mod HeaderLaws

@@ -4,7 +4,8 @@ use Rattle.std.proofs.lemmas.Bool.{eq-eqb, ne_eqb}
 use Rattle.std.proofs.lemmas.List.{take_all}
 use Rattle.std.proofs.lemmas.List.Splits.{slice_split-cons_yes, slice_split-cons_no, join_with_byte-slice_split}
 use Rattle.std.specs.List.{AllByRecursion, join_with_byte, onto_first}
-use Rattle.event_lines.specs.Pieces.{nothing_left, pieces, pieces_left}
+use Rattle.journal_model.specs.Fields.{nothing_left, pieces}
+use Rattle.event_lines.specs.Pieces.{pieces_left}
 
 -- no byte of the piece is the separator
 abbrev pub IsFreeOf : ℕ → List ℕ → Type 0

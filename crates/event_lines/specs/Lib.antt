@@ -1,5 +1,4 @@
 pub mod Pieces
-pub mod Fields
-pub mod Shapes
-pub mod Events
+pub mod Header
+pub mod Reads
 pub mod Words

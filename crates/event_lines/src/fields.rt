@@ -1,9 +1,11 @@
 //! What one word of a line says.
-ghost use Rattle.std.specs.Prelude.{◌≡◌, ◌<◌, ◌≤◌, ◌^◌, drop, IfSome};
-ghost use Rattle.event_lines.specs.Fields.{actor_of, first_actor, first_name, first_number, number_of};
+ghost use Rattle.std.specs.Prelude.{◌≡◌, ◌<◌, ◌≤◌, ◌^◌, drop, IfSome, OnOk};
+ghost use Rattle.journal_model.specs.Fields.{actor_of, first_actor, first_name, first_number, number_of};
+ghost use Rattle.journal_model.specs.Shapes.{actor_field, ended, name_field, named_number, node_field, number_field};
 
 use crate::pieces::Pieces;
 use crgc_ids::{ActorId, NodeId};
+use journal_model::LineFault;
 
 /// The number below the limit that is spelled so, in decimal without sign and without leading zeros. Linear time in
 /// the digits of the limit.
@@ -43,6 +45,14 @@ pub fn actor(word: &[u8]) -> Option<ActorId>
     ActorId::new(node, serial as u32)
 }
 
+/// The node that is spelled so.
+pub fn node(word: &[u8]) -> Option<NodeId>
+    ensures { result ≡ number_of 16 word.now }
+{
+    let n = number(word, 16)?;
+    NodeId::new(n as u8)
+}
+
 impl Pieces<'_> {
     /// Takes the first piece; Some exactly where it is this text.
     pub fn name(&mut self, text: &[u8]) -> Option<()>
@@ -68,8 +78,7 @@ impl Pieces<'_> {
         ensures value { result ≡ first_number 16 self.old }
         ensures rest { self.new ≡ drop 1 self.old }
     {
-        let n = self.number(16)?;
-        NodeId::new(n as u8)
+        node(self.next()?)
     }
 
     /// Takes the first piece, as an actor.
@@ -78,5 +87,68 @@ impl Pieces<'_> {
         ensures rest { self.new ≡ drop 1 self.old }
     {
         actor(self.next()?)
+    }
+
+    /// Takes the first piece, as a field that is this text.
+    pub fn name_field(&mut self, text: &[u8]) -> Result<(), LineFault>
+        ensures value { result ≡ name_field text.now self.old }
+        ensures rest { self.new ≡ drop 1 self.old }
+    {
+        match self.name(text) {
+            Some(()) => Ok(()),
+            None => Err(LineFault::Field),
+        }
+    }
+
+    /// Takes the first piece, as a field that is a node.
+    pub fn node_field(&mut self) -> Result<NodeId, LineFault>
+        ensures value { result ≡ node_field self.old }
+        ensures rest { self.new ≡ drop 1 self.old }
+    {
+        match self.node() {
+            Some(node) => Ok(node),
+            None => Err(LineFault::Field),
+        }
+    }
+
+    /// Takes the first piece, as a field that is a number below 2^32.
+    pub fn number_field(&mut self) -> Result<u32, LineFault>
+        ensures value { result ≡ number_field self.old }
+        ensures rest { self.new ≡ drop 1 self.old }
+    {
+        match self.number(1 << 32) {
+            Some(n) => Ok(n as u32),
+            None => Err(LineFault::Field),
+        }
+    }
+
+    /// Takes the first piece, as a field that is an actor.
+    pub fn actor_field(&mut self) -> Result<ActorId, LineFault>
+        ensures value { result ≡ actor_field self.old }
+        ensures rest { self.new ≡ drop 1 self.old }
+    {
+        match self.actor() {
+            Some(actor) => Ok(actor),
+            None => Err(LineFault::Field),
+        }
+    }
+
+    /// Takes the first two pieces, as this text and a number below 2^32.
+    pub fn named_number(&mut self, text: &[u8]) -> Result<u32, LineFault>
+        ensures value { result ≡ named_number text.now self.old }
+        ensures rest { OnOk result (self.new ≡ drop 2 self.old) }
+    {
+        self.name_field(text)?;
+        self.number_field()
+    }
+
+    /// Nothing is left, or else there is a word too much.
+    pub fn ended(&self) -> Result<(), LineFault>
+        ensures { result ≡ ended self.now }
+    {
+        match self.end() {
+            Some(()) => Ok(()),
+            None => Err(LineFault::Extra),
+        }
     }
 }

@@ -1,9 +1,20 @@
 //! Laws of the spelling. Each function does nothing, and its contract is the law.
-ghost use Rattle.std.specs.Prelude.{◌≡◌};
-ghost use Rattle.history_model.specs.declared.events.Event.{Event};
-ghost use Rattle.journal_model.specs.Lines.{IsWithinRanges, event_line};
+ghost use Rattle.std.specs.Prelude.{◌≡◌, ℕ, List, Ok};
+ghost use Rattle.journal_model.specs.declared.lines.Line.{Line};
+ghost use Rattle.journal_model.specs.Lines.{IsPrintable, spelling};
+ghost use Rattle.journal_model.specs.Reading.{read_line};
 
-/// No two events are spelled alike.
-pub fn no_two_events_are_spelled_alike()
-    ensures { (e f : Event) → IsWithinRanges e → IsWithinRanges f → event_line e ≡ event_line f → e ≡ f }
+/// What is read of a line may be printed, and the line is its spelling.
+pub fn what_is_read_is_spelled_so()
+    ensures { (bytes : List ℕ) (l : Line) → read_line bytes ≡ Ok l → IsPrintable l × (spelling l ≡ bytes) }
+{}
+
+/// What may be printed is read from its spelling.
+pub fn what_is_spelled_is_read_so()
+    ensures { (l : Line) → IsPrintable l → read_line (spelling l) ≡ Ok l }
+{}
+
+/// No two lines are spelled alike.
+pub fn no_two_lines_are_spelled_alike()
+    ensures { (k l : Line) → IsPrintable k → IsPrintable l → spelling k ≡ spelling l → k ≡ l }
 {}

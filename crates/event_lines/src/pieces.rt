@@ -1,7 +1,7 @@
 //! Bytes cut at a separator, piece by piece.
 ghost use Rattle.std.specs.Prelude.{◌≡◌, ◌<◌, ◌≤◌, ◌≢◌, ℕ, length, drop, slice_get, slice_index};
 ghost use Rattle.std.specs.Option.{option_copied};
-ghost use Rattle.event_lines.specs.Pieces.{nothing_left, pieces};
+ghost use Rattle.journal_model.specs.Fields.{nothing_left, pieces};
 
 use std::marker::Model;
 

@@ -86,7 +86,7 @@ fn write_stops(by: NodeId, stops: &[Stop], out: &mut Vec<u8>) -> Result<(), NoMe
     Ok(())
 }
 
-fn append_stop(by: NodeId, stop: &Stop, out: &mut Vec<u8>) -> Result<(), NoMemory>
+pub fn append_stop(by: NodeId, stop: &Stop, out: &mut Vec<u8>) -> Result<(), NoMemory>
     ensures ok { OnOk result (out.new.items ≡ out.old.items ++ (spell (stop_words by stop.now) ++ 10 ∷ [])) }
     ensures err { OnErr result (out.new.items ≡ out.old.items) }
 {

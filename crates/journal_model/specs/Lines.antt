@@ -80,8 +80,7 @@ abbrev pub IsNumber : ℕ → Type 0
 IsNumber n = n < 2 ^ 32
 
 abbrev pub AreActors : List Actor → Type 0
-AreActors [] = Unit {0}
-AreActors (a ∷ as_) = IsActor a × AreActors as_
+AreActors actors = AllByRecursion IsActor actors
 
 -- the numbers of the event are in their ranges, and a message carries at most 16 references
 abbrev pub IsWithinRanges : Event → Type 0

@@ -55,40 +55,40 @@ by_form [] fields word other = other
 by_form (form ∷ forms) fields word other =
     if bytes_eq word form.0 then (fields >>= λ x. Ok (form.1 x)) else by_form forms fields word other
 
--- the forms of a cut, a stop and an end; `Word` where the word is of no form
-unfoldable pub verdict_line : List ℕ → List (List ℕ) → Result Line LineFault
-verdict_line word words =
-    by_form cut_forms (cut_fields words) word
-    (by_form stop_forms (stop_fields words) word
-    (by_form end_forms (end_fields words) word
-    (Err Word)))
-
--- the forms with two nodes, and with two nodes and a number, and all above
+-- the forms with a link and a number, or with two numbers; `Word` where the word is of no form
 unfoldable pub link_line : List ℕ → List (List ℕ) → Result Line LineFault
 link_line word words =
-    by_form node_pair_forms (two_nodes words) word
-    (by_form link_forms (link_number words) word
-    (verdict_line word words))
+    by_form link_forms (link_number words) word
+    (by_form end_forms (end_fields words) word
+    (Err Word))
 
--- the forms with two actors and more, and all above
+-- the forms with two actors or two nodes, and the above
 unfoldable pub pair_line : List ℕ → List (List ℕ) → Result Line LineFault
 pair_line word words =
     by_form actor_pair_forms (two_actors words) word
-    (by_form message_forms (message words) word
+    (by_form node_pair_forms (two_nodes words) word
     (link_line word words))
 
--- the forms with one node, and all above
+-- the forms with one node, and the above
 unfoldable pub node_line : List ℕ → List (List ℕ) → Result Line LineFault
 node_line word words = by_form node_forms (one_node words) word (pair_line word words)
 
--- all forms: those with one actor, and all above
+-- the forms with one actor, and the above
 unfoldable pub actor_line : List ℕ → List (List ℕ) → Result Line LineFault
 actor_line word words = by_form actor_forms (one_actor words) word (node_line word words)
+
+-- the forms with a list, and the above: all forms
+unfoldable pub any_line : List ℕ → List (List ℕ) → Result Line LineFault
+any_line word words =
+    by_form message_forms (message words) word
+    (by_form cut_forms (cut_fields words) word
+    (by_form stop_forms (stop_fields words) word
+    (actor_line word words)))
 
 -- what the words of a line say
 abbrev pub read_words : List (List ℕ) → Result Line LineFault
 read_words [] = Err Word
-read_words (word ∷ words) = actor_line word words
+read_words (word ∷ words) = any_line word words
 
 -- what a line says, without its line feed
 abbrev pub read_line : List ℕ → Result Line LineFault

@@ -50,6 +50,10 @@ up_to read (suc most) (word ∷ words) = do
   xs ← up_to read most words
   Ok (x ∷ xs)
 
+-- the same, any number of them
+abbrev pub all_of : {A : Type 0} → (List ℕ → Option A) → List (List ℕ) → Result (List A) LineFault
+all_of read words = up_to read (length words) words
+
 abbrev pub one_node : List (List ℕ) → Result ℕ LineFault
 one_node words = do
   n ← node_field words
@@ -66,14 +70,14 @@ abbrev pub two_nodes : List (List ℕ) → Result (ℕ × ℕ) LineFault
 two_nodes words = do
   m ← node_field words
   n ← node_field (drop 1 words)
-  _ ← ended (drop 1 (drop 1 words))
+  _ ← ended (drop 2 words)
   Ok (m, n)
 
 abbrev pub two_actors : List (List ℕ) → Result (Actor × Actor) LineFault
 two_actors words = do
   a ← actor_field words
   b ← actor_field (drop 1 words)
-  _ ← ended (drop 1 (drop 1 words))
+  _ ← ended (drop 2 words)
   Ok (a, b)
 
 -- two nodes and a number
@@ -81,8 +85,8 @@ abbrev pub link_number : List (List ℕ) → Result (ℕ × ℕ × ℕ) LineFaul
 link_number words = do
   m ← node_field words
   n ← node_field (drop 1 words)
-  k ← number_field (drop 1 (drop 1 words))
-  _ ← ended (drop 1 (drop 1 (drop 1 words)))
+  k ← number_field (drop 2 words)
+  _ ← ended (drop 3 words)
   Ok (m, n, k)
 
 -- two actors, and at most 16 more
@@ -90,7 +94,7 @@ abbrev pub message : List (List ℕ) → Result (Actor × Actor × List Actor) L
 message words = do
   a ← actor_field words
   b ← actor_field (drop 1 words)
-  refs ← up_to actor_of 16 (drop 1 (drop 1 words))
+  refs ← up_to actor_of 16 (drop 2 words)
   Ok (a, b, refs)
 
 -- at most so many numbers before the word `lost`, and the words after it
@@ -103,27 +107,44 @@ before_lost (suc most) (word ∷ words) =
       r ← before_lost most words
       Ok (n ∷ r.0, r.1)
 
+-- at least one was there
+abbrev pub some_of : List ℕ → Result (Unit {0}) LineFault
+some_of [] = Err Field
+some_of (_ ∷ _) = Ok tt
+
 -- a node, 1 to 16 numbers, the word `lost`, and at most 16 nodes
 abbrev pub cut_fields : List (List ℕ) → Result (ℕ × List ℕ × List ℕ) LineFault
 cut_fields words = do
   m ← node_field words
-  count ← number_field (drop 1 words)
-  counts ← before_lost 15 (drop 1 (drop 1 words))
-  lost ← up_to (number_of 16) 16 counts.1
-  Ok (m, count ∷ counts.0, lost)
+  r ← before_lost 16 (drop 1 words)
+  _ ← some_of r.0
+  lost ← up_to (number_of 16) 16 r.1
+  Ok (m, r.0, lost)
 
--- an actor and a node, three numbers, each after its name, and any number of actors
-abbrev pub stop_fields : List (List ℕ) → Result (ℕ × Stop) LineFault
-stop_fields words = do
+-- what was received, told and admitted: three numbers, each after its name
+abbrev pub evidence_fields : List (List ℕ) → Result (ℕ × ℕ × ℕ) LineFault
+evidence_fields words = do
+  received ← named_number (codes "received") words
+  told ← named_number (codes "told") (drop 2 words)
+  admitted ← named_number (codes "admitted") (drop 4 words)
+  Ok (received, told, admitted)
+
+-- an actor, and a node after `by`
+abbrev pub stopped_fields : List (List ℕ) → Result (Actor × ℕ) LineFault
+stopped_fields words = do
   a ← actor_field words
   _ ← name_field (codes "by") (drop 1 words)
   m ← node_field (drop 2 words)
-  received ← named_number (codes "received") (drop 3 words)
-  told ← named_number (codes "told") (drop 5 words)
-  admitted ← named_number (codes "admitted") (drop 7 words)
+  Ok (a, m)
+
+-- these two, the three numbers, and any number of actors after `owners`
+abbrev pub stop_fields : List (List ℕ) → Result (ℕ × Stop) LineFault
+stop_fields words = do
+  s ← stopped_fields words
+  n ← evidence_fields (drop 3 words)
   _ ← name_field (codes "owners") (drop 9 words)
-  owners ← up_to actor_of (length words) (drop 10 words)
-  Ok (m, record { actor = a; received = received; told = told; admitted = admitted; owners = owners })
+  owners ← all_of actor_of (drop 10 words)
+  Ok (s.1, record { actor = s.0; received = n.0; told = n.1; admitted = n.2; owners = owners })
 
 -- two numbers, each after its name
 abbrev pub end_fields : List (List ℕ) → Result (ℕ × ℕ) LineFault

@@ -1,13 +1,16 @@
 -- What is kept beside the states of a node's actors, where the state of one changed or one more was born.
 use Rattle.std.proofs.Common.{◌≡◌, ◌≢◌, ◌+◌, ◌<◌, ◌≤◌, ◌==◌, ◌&&◌, ◌||◌, not, ℕ, Bool, true, false, nat_lt, cond, List, [], ◌∷◌, Option, None, Some, IsSome, option_to_list, ◌++◌, count_by, get_or, length, set, length-set, length-append, Result, Ok, Err, OnOk, OnErr, refl, sym, ◌∙◌, ap, ap₂, subst, inl, inr, arith}
-use Rattle.std.proofs.lemmas.Bool.{and_from, and_parts, and_right, cases_lt, cond-false, cond-true, cond_both, eq-eqb, eqb-true, false≢true, le-ltb, lt-ltb}
+use Rattle.std.proofs.lemmas.Bool.{and_from, and_parts, and_right, cases_lt, cond-false, cond-true, cond_both, eq-eqb, eqb-true, false≢true, le-ltb, lt-ltb, ne_eqb}
 use Rattle.std.proofs.lemmas.List.{get_or_append_left, get_or_default, get_or-set_other, get_or-set_same}
 use Rattle.std.proofs.Math.Seq.{get_or-append_seam}
 use Rattle.std.proofs.lemmas.List.Sums.{sum_by-append, sum_by-set}
 use Rattle.crgc_ids.specs.Actor.{Actor, same_actor}
-use Rattle.crgc_ids.proofs.ActorLaws.{same_parts}
+use Rattle.crgc_ids.proofs.ActorLaws.{same_actor-decides, same_parts}
 use Rattle.ready_actors.specs.Ready.{has_actor}
-use Rattle.actor_states.specs.State.{State, blank_state, has_news}
+use Rattle.history_model.specs.Streams.{are_flags}
+use Rattle.entry_records.specs.Unflushed.{Unflushed, is_nothing}
+use Rattle.entry_records.proofs.LogLemmas.{nothing-blank}
+use Rattle.actor_states.specs.State.{State, blank_state, flags_of, has_news}
 use Rattle.node_actors.specs.Keeping.{IsKept, IsSettled, is_due_among}
 use Rattle.node_actors.specs.Node.{ChangesIn, NodeState, state_in}
 
@@ -115,6 +118,36 @@ settled-due number i actor due put settled news node serial puts settles a =
     ∙ cond_both (same_actor actor a) news (has_actor put a) (λ v. v ≡ cond (same_actor actor a) news (has_actor due a))
     (λ same. sym (cond-true (same_actor actor a) news (has_actor due a) same))
     (λ other. puts a ∙ ap (λ v. v || has_actor due a) other ∙ sym (cond-false (same_actor actor a) news (has_actor due a) other)))
+
+-- a message that was noted as sent is something to tell
+sent-news : (s : State) → 0 < length s.log.noted.sent → has_news s ≡ true
+sent-news s some =
+    ap (λ v. not v || not (are_flags s.log.flushed (flags_of s))) (sym (nothing-blank s.log.actor s.log.noted) ∙ something)
+  where
+    n : Unflushed
+    n = s.log.noted
+
+    neither : (v : Bool) → (v && false) ≡ false
+    neither true = refl
+    neither false = refl
+
+    something : is_nothing n ≡ false
+    something =
+        ap (λ v. (n.received == 0) && (v && ((length n.created == 0) && (length n.released == 0)))) (ne_eqb (length n.sent) 0 (λ e. omega (arith, some, e)))
+        ∙ neither (n.received == 0)
+
+-- so the actor that noted one is due
+pub sent-due : (number : ℕ) (up : Bool) (busy stopped : ℕ) (actors : List State) (due : List Actor) (i : ℕ) (s : State) (actor : Actor)
+    → IsKept number up busy stopped actors due
+    → i < length actors
+    → s ≡ get_or actors i s
+    → record { node = number; serial = i } ≡ actor
+    → 0 < length s.log.noted.sent
+    → has_actor due actor ≡ true
+sent-due number up busy stopped actors due i s actor kept below here itself some =
+    due-still number up busy stopped actors due i s s kept below here refl actor
+    ∙ cond-true (same_actor (record { node = number; serial = i }) actor) (has_news s) (has_actor due actor) ((same_actor-decides (record { node = number; serial = i }) actor).1 itself)
+    ∙ sent-news s some
 
 -- with one actor more, its state says whether its flush is due
 due-more : (number : ℕ) (actors : List State) (t : State) (a : Actor) → is_due_among number (actors ++ t ∷ []) a ≡ cond (same_actor (record { node = number; serial = length actors }) a) (has_news t) (is_due_among number actors a)

@@ -7,7 +7,7 @@ ghost use Rattle.entry_records.specs.Log.{IsEntryOf};
 ghost use Rattle.entry_records.specs.Unflushed.{pair_count};
 ghost use Rattle.ready_actors.specs.Ready.{IsAbove, has_actor};
 ghost use Rattle.actor_states.specs.State.{Begets, Drops, Flushes, Gains, HasRoom, IsAlike, IsChild, IsSeed, Sends, Takes};
-ghost use Rattle.actor_states.specs.State.{flags_of, has_news, is_this, noting};
+ghost use Rattle.actor_states.specs.State.{flags_of, has_news, is_this, noting, unsent};
 ghost use Rattle.node_actors.specs.Keeping.{IsSettled};
 ghost use Rattle.node_actors.specs.Node.{AreAlike, Bears, ChangesIn, IsNextDue, IsThere, KeepsNode, NobodyIsDue, Spawns};
 ghost use Rattle.node_actors.specs.Node.{blank_node, busy_in, next_actor, state_in};
@@ -353,6 +353,19 @@ impl NodeActors {
         let sent = self.actors[place].send(to, refs);
         settle(&mut self.due, actor, self.actors[place].has_news());
         sent
+    }
+
+    /// The last message that the actor noted as sent, with so many references, is taken back: where this undoes a `send`, all
+    /// is as before that. Logarithmic time in the number of actors.
+    pub fn take_back_send(&mut self, actor: ActorId, refs: usize)
+        requires there { IsThere self.old actor }
+        requires sent { 0 < length (state_in self.old actor.serial).log.noted.sent }
+        ensures { ChangesIn self.old self.new actor.serial (λ s t. t ≡ unsent refs s) }
+    {
+        let place = actor.serial() as usize;
+        self.actors[place].take_back_send(refs);
+        let is_due = self.actors[place].has_news();
+        settle(&mut self.due, actor, is_due);
     }
 
     /// The actor gives up one reference to the target, of which it holds some. After `NoMemory` all is as before. Logarithmic

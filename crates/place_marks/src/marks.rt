@@ -1,5 +1,5 @@
 //! Marks by place.
-ghost use Rattle.std.specs.Prelude.{◌≡◌, ℕ, ◌<◌, ◌≤◌, true, false, [], OnOk, OnErr, length, slice_index_or};
+ghost use Rattle.std.specs.Prelude.{◌≡◌, ℕ, ◌<◌, ◌≤◌, true, false, [], OnOk, OnErr, length, max, slice_index_or};
 ghost use Rattle.place_marks.specs.Graph.{IsGraph};
 ghost use Rattle.place_marks.specs.Marks.{AreMarksReached, AreStartsMarked, IsMarking, IsOrdered, MarksTargets, Puts, is_marked};
 
@@ -97,7 +97,7 @@ impl Marks {
     /// There is room for a mark at each place of the graph; the marks stay. After `NoMemory` all is as before. Linear time in the
     /// number of places.
     pub fn reserve<G: PlaceGraph>(&mut self, graph: &G) -> Result<(), NoMemory>
-        ensures room { OnOk result ((G.graph graph.now).places ≤ length self.new.marks) }
+        ensures room { OnOk result (length self.new.marks ≡ max (length self.old.marks) (G.graph graph.now).places) }
         ensures marks { (p : ℕ) → is_marked self.new p ≡ is_marked self.old p }
         ensures err { OnErr result (self.new ≡ self.old) }
     {

@@ -37,7 +37,7 @@ short-before _ p short = short
 -- ---- what is held
 
 -- a message that was sent is short
-sent-short : (h : List Event) → SendsAreShort h → (m : Message) → IsAmong m (all_sent h) → length m.refs ≤ 16
+pub sent-short : (h : List Event) → SendsAreShort h → (m : Message) → IsAmong m (all_sent h) → length m.refs ≤ 16
 sent-short [] short m none = absurd none
 sent-short (Send f t refs ∷ p) short m among =
     elim (IsAmong-append_cases m (all_sent p) (record { from = f; to = t; refs = refs } ∷ []) among) [

@@ -2,6 +2,7 @@ pub mod ActorCases
 pub mod Bounds
 pub mod Counting
 pub mod HeldSteps
+pub mod SendLemmas
 pub mod StateEvents
 pub mod StateSteps
 pub mod SweepSteps

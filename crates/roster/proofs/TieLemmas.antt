@@ -8,7 +8,7 @@ use Rattle.roster.specs.Table.{Changes, IsAsBefore, KeepsTable, Table, state_at}
 use Rattle.roster.proofs.ActorCases.{at-actor}
 use Rattle.roster.proofs.HeldSteps.{weigh}
 
-keeps-then : (r s t : Table) → KeepsTable r s → KeepsTable s t → KeepsTable r t
+pub keeps-then : (r s t : Table) → KeepsTable r s → KeepsTable s t → KeepsTable r t
 keeps-then r s t first second = record {
   version = second.version ∙ first.version;
   count = second.count ∙ first.count;

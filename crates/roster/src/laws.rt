@@ -13,7 +13,7 @@ ghost use Rattle.history_model.specs.Messages.{Message, waiting};
 ghost use Rattle.history_model.specs.State.{is_up};
 ghost use Rattle.history_model.specs.Streams.{can_flush};
 ghost use Rattle.history_model.specs.Sweeps.{stopped_by};
-ghost use Rattle.actor_states.specs.State.{Drops, Flushes, HasRoom, Sends, Takes, has_news};
+ghost use Rattle.actor_states.specs.State.{Drops, Flushes, HasRoom, Sends, Takes, has_news, unsent};
 ghost use Rattle.node_actors.specs.Node.{blank_node};
 ghost use Rattle.roster.specs.Standing.{IsRosterOf, SendsAreShort, StandsAfter, is_of_no_actor, stopped_at};
 ghost use Rattle.roster.specs.Table.{Changes, Crashes, IsAsBefore, IsHere, Seeds, SpawnsFrom, Stops, Table, Ties};
@@ -53,6 +53,14 @@ pub fn messages_are_stood_for()
         → slice_get (map (λ (m : Message). m.refs) (waiting a p)) 0 ≡ Some refs → Changes old new a (Takes refs) → StandsAfter cl (Take a) p old new }
     ensures sent { (cl : Cluster) (a : Actor) (p : List Event) (old new : Table) (to : Actor) (refs : List Actor)
         → Changes old new a (Sends to refs) → StandsAfter cl (Send a to refs) p old new }
+{}
+
+/// A send can be taken back, and the table is then as it was before it.
+pub fn a_send_can_be_taken_back()
+    ensures sent { (old mid : Table) (a to : Actor) (refs : List Actor) → Changes old mid a (Sends to refs)
+        → 0 < length (state_at mid a).log.noted.sent }
+    ensures before { (old mid new : Table) (a to : Actor) (refs : List Actor) → Changes old mid a (Sends to refs)
+        → Changes mid new a (λ s t. t ≡ unsent (length refs) s) → IsAsBefore old new }
 {}
 
 /// References are tied and dropped.

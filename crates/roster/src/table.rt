@@ -5,7 +5,7 @@ ghost use Rattle.std.specs.List.{AllByRecursion};
 ghost use Rattle.history_model.specs.Facts.{created};
 ghost use Rattle.refob_counts.specs.Counts.{count_of};
 ghost use Rattle.entry_records.specs.Log.{IsEntryOf};
-ghost use Rattle.actor_states.specs.State.{Drops, Flushes, Gains, HasRoom, Sends, Takes, flags_of, has_news, is_this, noting};
+ghost use Rattle.actor_states.specs.State.{Drops, Flushes, Gains, HasRoom, Sends, Takes, flags_of, has_news, is_this, noting, unsent};
 ghost use Rattle.node_actors.specs.Node.{blank_node};
 ghost use Rattle.roster.specs.Table.{Changes, Crashes, IsAsBefore, IsHere, IsNextFlush, NobodyIsFlushed, Seeds, SpawnsFrom};
 ghost use Rattle.roster.specs.Table.{Stops, Ties, births_in, busy_total, next_on, node_in, state_at, stopped_in, up_in};
@@ -272,6 +272,16 @@ impl Roster {
         ensures err { OnErr result (IsAsBefore self.old self.new) }
     {
         self.nodes[actor.node().get() as usize].send(actor, to, refs)
+    }
+
+    /// The last message that the actor noted as sent, with so many references, is taken back: where this undoes a `send`, all
+    /// is as before that. Logarithmic time in the number of the node's actors.
+    pub fn take_back_send(&mut self, actor: ActorId, refs: usize)
+        requires here { IsHere self.old actor }
+        requires sent { 0 < length (state_at self.old actor).log.noted.sent }
+        ensures { Changes self.old self.new actor (λ s t. t ≡ unsent refs s) }
+    {
+        self.nodes[actor.node().get() as usize].take_back_send(actor, refs);
     }
 
     /// The actor gives up one reference to the target, of which it holds some. After `NoMemory` all is as before. Logarithmic

@@ -13,3 +13,4 @@ pub mod KeptLemmas
 pub mod FoldLemmas
 pub mod EmptyLemmas
 pub mod SeenLemmas
+pub mod PlacedLemmas

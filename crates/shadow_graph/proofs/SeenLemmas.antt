@@ -17,7 +17,7 @@ use Rattle.shadow_graph.specs.Stands.{IsGraphOf}
 
 -- ---- an actor that was not named
 
-none-passes : {X : Type 0} (test : X → Bool) (xs : List X) → list_any test xs ≡ false → position_or_len test xs ≡ length xs
+pub none-passes : {X : Type 0} (test : X → Bool) (xs : List X) → list_any test xs ≡ false → position_or_len test xs ≡ length xs
 none-passes test [] none = refl
 none-passes test (x ∷ xs) none =
     let Case : Bool → Type 0 = λ b. (b || list_any test xs) ≡ false → cond (not b) (1 + position_or_len test xs) 0 ≡ suc (length xs) in
@@ -27,7 +27,7 @@ none-passes test (x ∷ xs) none =
     ] in
     case none
 
-past-end : {X : Type 0} (xs : List X) (n : ℕ) (d : X) → length xs ≤ n → get_or xs n d ≡ d
+pub past-end : {X : Type 0} (xs : List X) (n : ℕ) (d : X) → length xs ≤ n → get_or xs n d ≡ d
 past-end [] n d past = refl
 past-end (x ∷ xs) zero d past = absurd (omega arith)
 past-end (x ∷ xs) (suc n) d past = past-end xs n d (omega arith)

@@ -7,3 +7,4 @@ pub mod Losing
 pub mod Taken
 pub mod Kept
 pub mod Seen
+pub mod Places

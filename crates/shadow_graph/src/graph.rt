@@ -8,9 +8,12 @@ ghost use Rattle.history_model.specs.declared.records.Bulletin.TheVariants as bu
 ghost use Rattle.history_model.specs.Folds.{Fold};
 ghost use Rattle.shadow_table.specs.Shadows.{is_named, no_shadows, place_in};
 ghost use Rattle.shadow_graph.specs.Graph.{lost_in};
+ghost use Rattle.shadow_graph.specs.Places.{ArePlaced};
 ghost use Rattle.shadow_graph.specs.Seen.{Drops, is_dropped, is_known, seen_edge, seen_shadow};
 ghost use Rattle.shadow_graph.specs.Stands.{IsGraphOf};
 ghost use Rattle.shadow_graph.specs.Taken.{ClosesLink, FoldsIn, IsLinked, TakesIn};
+
+mod by_place;
 
 use crate::add::add_delta;
 use crate::found::{blank, edge_between, no_edge, shadow_of};
@@ -109,8 +112,10 @@ impl ShadowGraph {
 
     /// How many actors were named.
     pub fn place_count(&self) -> u32
-        ensures { result ≡ length self.now.shadows.names }
+        ensures count { result ≡ length self.now.shadows.names }
+        ensures placed { ArePlaced self.now }
     {
+        let _pairs = self.edges.edge_count();
         self.shadows.place_count()
     }
 

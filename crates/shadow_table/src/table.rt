@@ -1,8 +1,8 @@
 //! Shadows by actor and by place.
 ghost use Rattle.std.specs.Prelude.{◌≡◌, ◌+◌, ◌<◌, ◌≤◌, ◌^◌, true, IsTrue, OnErr, OnOk, IfSome, length, map, slice_get, slice_index_or};
 ghost use Rattle.std.specs.Option.{is_some};
-ghost use Rattle.std.specs.List.{AllByRecursion};
-ghost use Rattle.crgc_ids.specs.Actor.{Actor};
+ghost use Rattle.std.specs.List.{AllByRecursion, IsDistinct};
+ghost use Rattle.crgc_ids.specs.Actor.{Actor, same_actor};
 ghost use Rattle.history_model.specs.Ledgers.{actor_total, received_total};
 ghost use Rattle.shadow_table.specs.Shadows.{ChangesShadow, ChangesShadows, ExtendsShadows, as_dropped, blank, first_of, is_named, no_shadows};
 ghost use Rattle.shadow_table.specs.Shadows.{place_in, shadow_at, with_admitted, with_name, with_names, with_state, with_states, with_told, without_told};
@@ -34,13 +34,16 @@ pub struct ShadowTable {
 
 impl Model for ShadowTable {
     ghost use Rattle.std.specs.Prelude.{◌≡◌, ◌<◌, ◌^◌, length};
+    ghost use Rattle.std.specs.List.{IsDistinct};
+    ghost use Rattle.crgc_ids.specs.Actor.{same_actor};
     ghost use Rattle.shadow_table.specs.Shadows.{Shadows};
 
     ghost Value = { Shadows };
 
     ghost view = { λ t. record { names = t.names.keys; shadows = t.shadows.items } };
 
-    ghost invariant = { λ t. (length t.shadows.items ≡ length t.names.keys) × (length t.shadows.items < 2 ^ 32) };
+    ghost invariant = { λ t. (length t.shadows.items ≡ length t.names.keys) × (length t.shadows.items < 2 ^ 32)
+        × IsDistinct same_actor t.names.keys };
 }
 
 impl ShadowTable {
@@ -58,6 +61,7 @@ impl ShadowTable {
     pub fn place_count(&self) -> u32
         ensures value { result ≡ length self.now.names }
         ensures shadows { length self.now.shadows ≡ length self.now.names }
+        ensures distinct { IsDistinct same_actor self.now.names }
     {
         self.shadows.len() as u32
     }

@@ -1,19 +1,22 @@
 -- How large the parts of a world become in a history of at most 1,000,000 events.
-use Rattle.std.proofs.Common.{◌≡◌, ◌+◌, ◌-◌, ◌*◌, ◌^◌, ◌≤◌, ◌<◌, ℕ, true, false, cond, List, [], ◌∷◌, None, length, nat_lt, arith}
+use Rattle.std.proofs.Common.{◌≡◌, ◌+◌, ◌-◌, ◌^◌, ◌≤◌, ◌<◌, ℕ, true, false, cond, List, [], ◌∷◌, None, Some, inl, length, map, nat_lt, refl, sym, ◌∙◌, ap, slice_get, subst, arith}
 use Rattle.crgc_ids.specs.Actor.{Actor}
+use Rattle.crgc_ids.specs.Members.{IsAmong}
 use Rattle.history_model.specs.declared.events.Event.{Event}
 use Rattle.history_model.specs.declared.events.Event.TheVariants.{Repeat, Send}
 use Rattle.history_model.specs.Cluster.{Cluster}
 use Rattle.history_model.specs.Ledgers.{entries_ledger}
-use Rattle.history_model.specs.Messages.{copies, is_admit, is_lose, is_repeat, sent}
+use Rattle.history_model.specs.Messages.{Message, copies, is_admit, is_lose, is_repeat, sent, waiting}
 use Rattle.history_model.specs.Streams.{queue, stream}
 use Rattle.history_model.specs.Tally.{tally}
 use Rattle.history_model.specs.Legal.{checks, refusal}
+use Rattle.history_model.proofs.AccountsBirths.{mail-among, waiting-among}
 use Rattle.history_model.proofs.Basics.{first_broken-none}
 use Rattle.journal_model.specs.Lines.{AreWithinRanges}
 use Rattle.delta_graph.specs.Sums.{CountsFit}
 use Rattle.delta_graph.proofs.FitLemmas.{fit-facts, tally-length}
 use Rattle.link_table.specs.Piled.{copies_in}
+use Rattle.mailboxes.specs.Mail.{mail_of}
 use Rattle.traffic.specs.Standing.{IsTrafficOf}
 use Rattle.traffic.specs.TrafficState.{TrafficState, link_of, pile_on}
 use Rattle.traffic.proofs.KeepingLinks.{is-link, link-legal}
@@ -21,7 +24,7 @@ use Rattle.traffic.proofs.ReadingLemmas.{copies-read}
 use Rattle.actor_states.specs.State.{HasRoom}
 use Rattle.roster.specs.Standing.{IsRosterOf, SendsAreShort}
 use Rattle.roster.specs.Table.{Table, state_at}
-use Rattle.roster.proofs.Bounds.{room-left}
+use Rattle.roster.proofs.Bounds.{room-left, sent-short}
 use Rattle.bulletin_streams.specs.Standing.{AreStreamsOf, IsWithinLimits}
 use Rattle.bulletin_streams.specs.StreamState.{StreamState, stream_at}
 use Rattle.bulletin_streams.proofs.BoundLemmas.{queue-few, stream-short}
@@ -53,6 +56,18 @@ pub actor-has_room : (cl : Cluster) (h : List Event) (r : Table) (a : Actor) (k 
 actor-has_room cl h r a k within is small =
     let events = within.events in
     room-left cl h r a k (sends-short h within.ranges) is (omega arith)
+
+-- the first message that is kept for the actor is the first one that waits
+pub first-waits : (cl : Cluster) (h : List Event) (t : TrafficState) (a : Actor) (refs : List Actor) → IsTrafficOf cl h t → slice_get (mail_of t.boxes a) 0 ≡ Some refs → slice_get (map (λ (m : Message). m.refs) (waiting a h)) 0 ≡ Some refs
+first-waits cl h t a refs stands first = sym (ap (λ ms. slice_get ms 0) (stands.mail a)) ∙ first
+
+first-short : (ms : List Message) (refs : List Actor) → ((m : Message) → IsAmong m ms → length m.refs ≤ 16) → slice_get (map (λ (m : Message). m.refs) ms) 0 ≡ Some refs → length refs ≤ 16
+first-short [] refs short first = absurd (cc)
+first-short (m ∷ ms) refs short first = (let same : m.refs ≡ refs = cc in subst (λ rs. length rs ≤ 16) same (short m (inl refl)))
+
+-- the first message that waits carries 16 references at most
+pub taken-short : (a : Actor) (h : List Event) (refs : List Actor) → AreWithinRanges h → slice_get (map (λ (m : Message). m.refs) (waiting a h)) 0 ≡ Some refs → length refs ≤ 16
+taken-short a h refs ranges first = first-short (waiting a h) refs (λ m among. sent-short h (sends-short h ranges) m (mail-among a h m (waiting-among a h m among)).0) first
 
 -- the counts of the entries of a queue fit 32 bits
 pub queue-fits : (cl : Cluster) (h : List Event) (s : List StreamState) (n : ℕ) → IsWithinLimits cl h → AreStreamsOf cl h s → n < 16 → CountsFit (entries_ledger (stream_at s n).entries)

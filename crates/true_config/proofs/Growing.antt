@@ -1,12 +1,10 @@
 -- A world whose history goes on.
-use Rattle.std.proofs.Common.{◌≡◌, ◌+◌, ◌≤◌, ◌<◌, ◌∷◌, ℕ, Bool, true, false, cond, List, [], length, drop, Option, Some, None, refl, sym, ◌∙◌, ap, subst, arith}
+use Rattle.std.proofs.Common.{◌≡◌, ◌<◌, ◌∷◌, true, false, cond, List, [], length, drop, Some, None, refl, sym, ◌∙◌, ap, subst, arith}
 use Rattle.std.specs.Prelude.{nat_le}
 use Rattle.std.proofs.lemmas.Bool.{leb-false}
-use Rattle.crgc_ids.specs.declared.Which.{Which}
 use Rattle.crgc_ids.specs.declared.Which.TheVariants.{Actors, Delta, Events}
 use Rattle.history_model.specs.declared.events.Event.{Event}
 use Rattle.history_model.specs.Cluster.{Cluster}
-use Rattle.history_model.specs.Legal.{IsLegal}
 use Rattle.history_model.specs.Story.{Story}
 use Rattle.journal_model.specs.Limits.{limit_passed, passes_actors, passes_delta}
 use Rattle.journal_model.specs.Lines.{IsWithinRanges}

@@ -1,4 +1,5 @@
 pub mod Bounds
 pub mod Growing
+pub mod MailEvents
 pub mod Readings
 pub mod ToldEvents

@@ -1,5 +1,5 @@
 -- How the history of a world goes on.
-use Rattle.std.specs.Prelude.{◌≡◌, List, ◌∷◌, None}
+use Rattle.std.specs.Prelude.{◌≡◌, ◌∷◌, None}
 use Rattle.history_model.specs.declared.events.Event.{Event}
 use Rattle.history_model.specs.Legal.{refusal}
 use Rattle.history_model.specs.Story.{Story}

@@ -4,9 +4,14 @@
 mod acting;
 mod limits;
 mod links;
+mod messages;
 mod moment;
 mod readers;
 mod telling;
+mod working;
 mod world;
 
 pub use world::World;
+
+#[cfg(test)]
+mod tests;

@@ -5,10 +5,11 @@ ghost use Rattle.history_model.specs.Streams.{stream};
 ghost use Rattle.history_model.specs.Tells.{IsOrdered};
 ghost use Rattle.bulletin_streams.specs.Standing.{TellsNumber, queued};
 ghost use Rattle.roster.specs.Standing.{stopped_at};
-ghost use Rattle.traffic.specs.Readings.{IsHead};
+ghost use Rattle.traffic.specs.Readings.{IsHead, IsNextRemoval, IsNextWindow};
+ghost use Rattle.true_config.specs.Readings.{IsNextFlush};
 
 use crate::World;
-use crgc_ids::NodeId;
+use crgc_ids::{ActorId, NodeId};
 use history_model::Bulletin;
 
 impl World {
@@ -50,5 +51,27 @@ impl World {
         ensures { IsHead from at self.now.past result }
     {
         self.traffic.head(from, at)
+    }
+
+    /// The lowest actor of the node, of those above the one that is given, whose flush no rule refuses; None exactly where there
+    /// is none. Logarithmic time in the number of the node's actors.
+    pub fn next_flush(&self, node: NodeId, after: Option<ActorId>) -> Option<ActorId>
+        ensures { IsNextFlush self.now.cluster node self.now.past after result }
+    {
+        self.roster.next_flush(node, after)
+    }
+
+    /// The lowest node from which no rule refuses a window of `at`; None exactly where there is none. Constant time.
+    pub fn next_window(&self, at: NodeId) -> Option<NodeId>
+        ensures { IsNextWindow self.now.cluster at self.now.past result }
+    {
+        self.traffic.next_window(at)
+    }
+
+    /// The lowest node that no rule refuses `at` to remove; None exactly where there is none. Constant time.
+    pub fn next_removal(&self, at: NodeId) -> Option<NodeId>
+        ensures { IsNextRemoval self.now.cluster at self.now.past result }
+    {
+        self.traffic.next_removal(at)
     }
 }

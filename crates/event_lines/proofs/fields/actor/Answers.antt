@@ -1,5 +1,5 @@
 use Rattle.std.proofs.Common.{rules}
-use Rattle.event_lines.specs.Fields.{actor_of}
+use Rattle.journal_model.specs.Fields.{actor_of}
 use Rattle.event_lines.proofs.fields.actor.Goals as goal
 
 pub returns-in_err-node : goal.returns-in_err-node

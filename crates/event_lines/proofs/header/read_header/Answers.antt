@@ -1,5 +1,5 @@
 use Rattle.std.proofs.Common.{◌∙◌, ap}
-use Rattle.event_lines.specs.Shapes.{header_numbers}
+use Rattle.event_lines.specs.Header.{header_numbers}
 use Rattle.event_lines.proofs.HeaderLaws.{header-match}
 use Rattle.event_lines.proofs.header.read_header.Goals as goal
 

@@ -1,0 +1,5 @@
+pub mod Refusals
+pub mod Collected
+pub mod Taking
+pub mod Kept
+pub mod Following

@@ -1,0 +1,191 @@
+//! The collector.
+ghost use Rattle.std.specs.Prelude.{◌≡◌, ◌+◌, ◌<◌, ◌≤◌, true, false, Ok, IfErr, IfOk, OnErr, OnOk, length, sum};
+ghost use Rattle.gossip_core.specs.Gossip.{IsFirstMissing};
+ghost use Rattle.collector.specs.Collected.{IsNew, IsSettled, node_count};
+ghost use Rattle.collector.specs.Refusals.{IsFit, IsRefusal, read_as};
+ghost use Rattle.collector.specs.Taking.{Folds, IsAnswer, IsTaken, Keeps, LeavesAsWas, Takes};
+
+use crate::read::{TakeFault, read_whole};
+use crgc_ids::{Cut, NoMemory, NodeId};
+use gossip_core::GossipCore;
+use history_model::Bulletin;
+use shadow_graph::ShadowGraph;
+use std::alloc::Global;
+use std::marker::Model;
+
+/// What became of a bulletin: so many were folded in this call, from 1; none was, and its number is above the cut of its
+/// origin; none was, and its number is below it.
+#[derive(Clone, Copy, PartialEq, Eq, Debug)]
+pub enum Taken {
+    Folded(u32),
+    Waiting,
+    Old,
+}
+
+/// The collector of one node. It knows nothing but the bulletins that it was given. It keeps its allocator. Contracts see its
+/// node, the bulletins that wait and the cut, the shadow graph, and whom it stopped.
+#[derive(Drop)]
+pub struct Collector {
+    alloc: Global,
+    node: NodeId,
+    nodes: u8,
+    order: GossipCore,
+    graph: ShadowGraph,
+    stopped: Vec<bool>,
+}
+
+impl Model for Collector {
+    ghost use Rattle.std.specs.Prelude.{◌≡◌};
+    ghost use Rattle.collector.specs.Collected.{Collected};
+    ghost use Rattle.collector.specs.Kept.{IsKept};
+
+    ghost Value = { Collected };
+
+    ghost view = { λ c. record { node = c.node; order = c.order; graph = c.graph; stopped = c.stopped.items } };
+
+    ghost invariant = { λ c. (c.nodes ≡ c.order.nodes)
+        × IsKept (record { node = c.node; order = c.order; graph = c.graph; stopped = c.stopped.items }) };
+}
+
+impl Collector {
+    /// The collector of a node of a cluster of so many nodes, which was given nothing and stopped nobody.
+    pub fn new(alloc: Global, node: NodeId, nodes: u8) -> Result<Collector, NoMemory>
+        requires below { node < nodes }
+        requires in_range { nodes ≤ 16 }
+        ensures { IfOk result (λ c. IsNew node nodes c) }
+    {
+        let order = GossipCore::new(alloc, nodes)?;
+        Ok(Collector {
+            alloc,
+            node,
+            nodes,
+            order,
+            graph: ShadowGraph::new(alloc, nodes),
+            stopped: Vec::new(alloc),
+        })
+    }
+
+    /// The node whose collector it is.
+    pub fn node(&self) -> NodeId
+        ensures { result ≡ self.now.node }
+    {
+        self.node
+    }
+
+    /// How many nodes the cluster has.
+    pub fn nodes(&self) -> u8
+        ensures { result ≡ node_count self.now }
+    {
+        self.nodes
+    }
+
+    /// How many bulletins of each node are folded.
+    pub fn cut(&self) -> Cut
+        ensures { result ≡ self.now.order.cut }
+    {
+        self.order.cut()
+    }
+
+    /// The first number of the origin from its cut on of which no bulletin waits. Logarithmic time in the number of those that
+    /// wait, for each number between the two.
+    pub fn wants(&self, origin: NodeId) -> u32
+        ensures { IsFirstMissing self.now.order origin result }
+    {
+        self.order.wants(origin)
+    }
+
+    /// What is folded.
+    pub fn graph(&self) -> &ShadowGraph
+        ensures { result.now ≡ self.now.graph }
+    {
+        &self.graph
+    }
+
+    /// The bytes of the origin's bulletin of this number are taken. It waits until all before it are folded, and then it is
+    /// folded, with those that waited for it. One of a number that was taken before is ignored. Bytes are refused that are no
+    /// bulletin, have more after it, or have one that is foreign; then nothing changes. After `NoMemory` the bulletin may be
+    /// kept, and some that were ready folded. Time in proportion to the bytes, and to what the folded bulletins take.
+    pub fn take(&mut self, origin: NodeId, number: u32, bytes: &[u8]) -> Result<Taken, TakeFault>
+        requires origin { origin < node_count self.old }
+        requires number { number < 1_000_000 }
+        ensures answer { IfOk result (λ taken. IsAnswer origin number self.old self.new taken) }
+        ensures taken { OnOk result (IsTaken origin number self.new) }
+        ensures read { OnOk result ((b : Bulletin) × (read_as (node_count self.old) origin bytes.now ≡ Ok b)) }
+        ensures refused { IfErr result (λ e. IsRefusal e (read_as (node_count self.old) origin bytes.now)) }
+        ensures unchanged { IfErr result (λ e. LeavesAsWas e self.old self.new) }
+        ensures takes { Takes origin number bytes.now self.old self.new }
+    {
+        let b = match read_whole(self.alloc, self.nodes, origin, bytes) {
+            Ok(b) => b,
+            Err(fault) => return Err(fault),
+        };
+        if self.keep(origin, number, b).is_err() {
+            return Err(TakeFault::NoMemory);
+        }
+        match self.fold_ready() {
+            Ok(0) => Ok(self.unfolded(origin, number)),
+            Ok(count) => Ok(Taken::Folded(count)),
+            Err(_) => Err(TakeFault::NoMemory),
+        }
+    }
+
+    /// The answer where no bulletin was folded.
+    fn unfolded(&self, origin: NodeId, number: u32) -> Taken
+        requires { IsTaken origin number self.now }
+        ensures { IsAnswer origin number self.now self.now result }
+    {
+        if number < self.order.cut().at(origin) {
+            Taken::Old
+        } else {
+            Taken::Waiting
+        }
+    }
+
+    /// The bulletin waits, unless one of its number was taken before. After `NoMemory` all is as before.
+    fn keep(&mut self, origin: NodeId, number: u32, b: Bulletin) -> Result<(), NoMemory>
+        requires origin { origin < node_count self.old }
+        requires number { number < 1_000_000 }
+        requires fits { IsFit (node_count self.old) origin b }
+        ensures ok { OnOk result (Keeps self.old self.new origin number b) }
+        ensures err { OnErr result (self.new ≡ self.old) }
+    {
+        if self.order.offer(origin, number, b).is_err() {
+            return Err(NoMemory);
+        }
+        Ok(())
+    }
+
+    /// Whatever is ready is folded, and how many bulletins that were is told. After `NoMemory` some of them may be folded.
+    fn fold_ready(&mut self) -> Result<u32, NoMemory>
+        ensures folds { Folds self.old self.new }
+        ensures count { IfOk result (λ n. sum self.new.order.cut ≡ sum self.old.order.cut + n) }
+        ensures settled { OnOk result (IsSettled self.new) }
+    {
+        let mut count = 0;
+        while self.fold_next()? {
+            count += 1;
+        }
+        Ok(count)
+    }
+
+    /// The first bulletin that is ready is folded; false where none is. After `NoMemory` all is as before.
+    fn fold_next(&mut self) -> Result<bool, NoMemory>
+        ensures folds { Folds self.old self.new }
+        ensures one { result ≡ Ok true → sum self.new.order.cut ≡ sum self.old.order.cut + 1 }
+        ensures bounded { sum self.new.order.cut ≤ 16000000 }
+        ensures fewer { result ≡ Ok true → length self.new.order.kept < length self.old.order.kept }
+        ensures none { result ≡ Ok false → IsSettled self.new }
+        ensures same { result ≡ Ok false → self.new ≡ self.old }
+        ensures err { OnErr result (self.new ≡ self.old) }
+    {
+        let (origin, b) = match self.order.first_ready() {
+            Some(ready) => ready,
+            None => return Ok(false),
+        };
+        if self.graph.fold(origin, b).is_err() {
+            return Err(NoMemory);
+        }
+        self.order.advance(origin);
+        Ok(true)
+    }
+}

@@ -1,0 +1,14 @@
+use Rattle.std.proofs.Common.{◌≡◌, ◌-◌, ◌≤◌, length}
+use Rattle.journal_model.specs.Fields.{number_of}
+use Rattle.journal_model.specs.Shapes.{up_to}
+use Rattle.event_lines.proofs.ListsLaws.{after_fields}
+use Rattle.event_lines.proofs.pieces.Pieces.nodes.Given as goal
+
+abbrev pub invariant-loop-word : goal.invariant-loop-word
+invariant-loop-word l = record {
+  few : length l.nodes ≤ 16;
+  same : after_fields l.nodes (up_to (number_of 16) (16 - length l.nodes) l.self) ≡ up_to (number_of 16) 16 l.fn.self;
+}
+
+abbrev pub decreases-loop-word : goal.decreases-loop-word
+decreases-loop-word l = length l.self

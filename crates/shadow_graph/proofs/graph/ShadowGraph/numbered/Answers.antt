@@ -1,0 +1,29 @@
+use Rattle.std.proofs.Common.{◌<◌, ◌≤◌, length, subst, sym}
+use Rattle.edge_table.specs.declared.table.Edge.{Edge}
+use Rattle.shadow_graph.proofs.KeptLemmas.{small-kept}
+use Rattle.shadow_graph.proofs.PlacedLemmas.{AreKeyed, IsEdge, name_at, numbered}
+use Rattle.shadow_graph.specs.Graph.{Graph}
+use Rattle.shadow_graph.proofs.graph.ShadowGraph.numbered.Goals as goal
+
+pub returns : goal.returns
+returns c =
+    let g = c.self.inside in
+    let keyed : AreKeyed g.shadows.names g.edges = record {
+      actors = c.place_count-names.ensures.distinct;
+      pairs = c.edge_count-pairs.ensures.distinct;
+      long = c.edge_count-pairs.ensures.long;
+      tabled = c.self.invariant.tabled;
+    } in
+    let inside = subst (λ (x : Graph). c.args.number < length x.edges.edges) (sym c.self.view_is) c.requires in
+    let is : IsEdge g.shadows.names g.edges c.edge.result = subst (IsEdge g.shadows.names g.edges) (sym c.edge.ensures.edge) (numbered g.shadows.names g.edges keyed c.args.number inside).edge in
+    let small = small-kept g.shadows g.edges g.log g.finals g.lost g.cut c.self.invariant in
+    let owner = name_at g.shadows.names c.edge.result.owner in
+    let target = name_at g.shadows.names c.edge.result.target in
+    rw (← c.self.view_is) (record {
+      edge = c.edge.ensures.edge;
+      owner = is.owner;
+      target = is.target;
+      between = is.between;
+      given = subst (λ (e : Edge). e.given ≤ 4611686018427387904) is.between (small.given owner target);
+      released = subst (λ (e : Edge). e.released ≤ 4611686018427387904) is.between (small.released owner target);
+    })

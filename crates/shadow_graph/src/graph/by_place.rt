@@ -1,0 +1,87 @@
+//! The edges of a shadow graph by the places of its actors.
+ghost use Rattle.std.specs.Prelude.{◌≡◌, ◌<◌, ◌≤◌, ◌-ℤ◌, if◌then◌else◌, pos, length, slice_index};
+ghost use Rattle.edge_table.specs.Table.{edge_at, no_edge};
+ghost use Rattle.shadow_graph.specs.Pairs.{edge_between};
+ghost use Rattle.shadow_graph.specs.Places.{actor_of, owners_of, targets_of};
+ghost use Rattle.shadow_graph.specs.Seen.{is_dropped, seen_edge};
+
+use super::ShadowGraph;
+use edge_table::Edge;
+
+impl ShadowGraph {
+    /// How many targets rows named with the actor at the place as owner. Constant time.
+    pub fn edge_count(&self, place: u32) -> u32
+        requires { place < length self.now.shadows.names }
+        ensures { result ≡ length (targets_of self.now place) }
+    {
+        self.edges.edges_from(place).len() as u32
+    }
+
+    /// The place of a target of the actor at the place, in the order in which rows named them, and the value of `edge` for both,
+    /// which may be 0 or below. Constant time.
+    pub fn edge_at(&self, place: u32, index: u32) -> (u32, i64)
+        requires place { place < length self.now.shadows.names }
+        requires index { index < length (targets_of self.now place) }
+        ensures target { result.0 ≡ slice_index (targets_of self.now place) index }
+        ensures within { result.0 < length self.now.shadows.names }
+        ensures value { let e = seen_edge self.now (actor_of self.now place) (actor_of self.now result.0) in
+            result.1 ≡ pos e.given -ℤ pos e.released }
+    {
+        let number = self.edges.edges_from(place)[index as usize];
+        let edge = self.numbered(number);
+        (edge.target, self.value(edge))
+    }
+
+    /// How many owners rows named with the actor at the place as target. Constant time.
+    pub fn owner_count(&self, place: u32) -> u32
+        requires { place < length self.now.shadows.names }
+        ensures { result ≡ length (owners_of self.now place) }
+    {
+        self.edges.edges_to(place).len() as u32
+    }
+
+    /// The place of an owner of references to the actor at the place, in the order in which rows named them, and the value of
+    /// `edge` for both, which may be 0 or below. Constant time.
+    pub fn owner_at(&self, place: u32, index: u32) -> (u32, i64)
+        requires place { place < length self.now.shadows.names }
+        requires index { index < length (owners_of self.now place) }
+        ensures owner { result.0 ≡ slice_index (owners_of self.now place) index }
+        ensures within { result.0 < length self.now.shadows.names }
+        ensures value { let e = seen_edge self.now (actor_of self.now result.0) (actor_of self.now place) in
+            result.1 ≡ pos e.given -ℤ pos e.released }
+    {
+        let number = self.edges.edges_to(place)[index as usize];
+        let edge = self.numbered(number);
+        (edge.owner, self.value(edge))
+    }
+
+    /// What is kept of the edge with this number, which is what is kept of the actors at its ends.
+    fn numbered(&self, number: u32) -> Edge
+        requires { number < length self.now.edges.edges }
+        ensures edge { result ≡ edge_at self.now.edges number }
+        ensures owner { result.owner < length self.now.shadows.names }
+        ensures target { result.target < length self.now.shadows.names }
+        ensures between { edge_between self.now.edges (actor_of self.now result.owner) (actor_of self.now result.target) ≡ result }
+        ensures given { result.given ≤ 4611686018427387904 }
+        ensures released { result.released ≤ 4611686018427387904 }
+    {
+        let _names = self.shadows.place_count();
+        let _pairs = self.edges.edge_count();
+        self.edges.edge(number)
+    }
+
+    /// The references that were given along the edge, less those that were released; 0 where its target was dropped.
+    fn value(&self, edge: Edge) -> i64
+        requires target { edge.target < length self.now.shadows.names }
+        requires given { edge.given ≤ 4611686018427387904 }
+        requires released { edge.released ≤ 4611686018427387904 }
+        ensures { let e = if is_dropped self.now (actor_of self.now edge.target) then no_edge else edge in
+            result ≡ pos e.given -ℤ pos e.released }
+    {
+        let _names = self.shadows.place_count();
+        if self.shadows.shadow(edge.target).dropped {
+            return 0;
+        }
+        edge.given as i64 - edge.released as i64
+    }
+}
