@@ -135,3 +135,15 @@ module _ (cl : Cluster) (es : List Event) (i : ℕ) (start text : List ℕ) (lef
             told = text-more start text more (told_lines cl p) (event_line (Sweep m) ∷ verdict_lines cl m p) told added ∙ ap (λ q. start ++ text_of (told_lines cl q)) (sym past);
             follow = rw (past, dropped) follow.1;
           }
+
+-- ---- one event more
+
+-- with a sweep its verdict comes last
+pub verdicts-swept : (cl : Cluster) (h : List Event) (m : ℕ) (v : Verdict) (vs : List Verdict) → AreVerdicts cl h (reverse vs) → IsVerdict cl m h v
+    → AreVerdicts cl (Sweep m ∷ h) (reverse (vs ++ v ∷ []))
+verdicts-swept cl h m v vs are is = subst (AreVerdicts cl (Sweep m ∷ h)) (sym (reverse-append vs (v ∷ []))) (is, are)
+
+-- any other event leaves the verdicts
+pub verdicts-other : (cl : Cluster) (h : List Event) (e : Event) (vs : List Verdict) → IsOther e → AreVerdicts cl h vs → AreVerdicts cl (e ∷ h) vs
+verdicts-other cl h (Sweep m) vs other are = absurd (other m refl)
+verdicts-other cl h _ vs other are = are

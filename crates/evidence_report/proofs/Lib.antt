@@ -3,3 +3,4 @@ pub mod Totals
 pub mod Following
 pub mod Counting
 pub mod Summing
+pub mod GivenVerdicts

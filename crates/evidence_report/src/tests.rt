@@ -1,7 +1,7 @@
 //! Reports of worked histories, with the verdicts that their sweeps find.
-ghost use Rattle.std.specs.Prelude.{◌≡◌, ◌≤◌, [], ◌∷◌, replicate, reverse, IfOk};
-ghost use Rattle.history_model.specs.declared.events.Event.TheVariants.{Sweep as Sweeps};
-ghost use Rattle.history_model.specs.Rows.{actor as numbered, cluster, dropped_child as child_dropped, two_nodes_lost_together};
+ghost use Rattle.std.specs.Prelude.{◌≡◌, ◌≤◌, ◌<◌, [], ◌∷◌, replicate, reverse, IfOk};
+ghost use Rattle.history_model.specs.declared.events.Event.TheVariants.{Crash as Crashes, Hand as Hands, Remove as Removes, Sweep as Sweeps};
+ghost use Rattle.history_model.specs.Rows.{actor as numbered, cluster, dropped_child as child_dropped, two_nodes_crashed, two_nodes_lost_together};
 ghost use Rattle.history_model.specs.Sweeps.{IsVerdict};
 
 use crate::report;
@@ -17,6 +17,15 @@ const DROPPED_CHILD: &str =
 
 const DROPPED_CHILD_BRIEF: &str =
     "crgc 1 nodes 1\nnode 0 born 2 stopped 1\ntotal born 2 stopped 1\n";
+
+const TWO_NODES_LOST: &str =
+    "crgc 1 nodes 4\nseed 0\ncrash 2\ncrash 3\nremove 0 2\nremove 0 3\nremove 1 2\n\
+     remove 1 3\nhand 0 0 0\nhand 0 0 1\nhand 0 1 0\nsweep 0\ncut 0 2 1 0 0 lost\n\
+     hand 0 1 1\nsweep 0\ncut 0 2 2 0 0 lost 2 3\nend events 13 stopped 0\n";
+
+const TWO_NODES_LOST_BRIEF: &str =
+    "crgc 1 nodes 4\nnode 0 born 1 stopped 0\nnode 1 born 0 stopped 0\nnode 2 born 0 stopped 0\n\
+     node 3 born 0 stopped 0\ntotal born 1 stopped 0\n";
 
 fn numbered_node(number: u8) -> Result<NodeId, Fail>
     ensures { IfOk result (λ n. n ≡ number) }
@@ -108,5 +117,108 @@ fn a_dropped_child_is_reported(rt: HostRuntime) -> Result<(), Fail> {
     assert_eq!(rt; full.as_slice(), DROPPED_CHILD.as_bytes());
     let brief = report(rt.alloc(), &history, &verdicts, true)?;
     assert_eq!(rt; brief.as_slice(), DROPPED_CHILD_BRIEF.as_bytes());
+    Ok(())
+}
+
+/// A hand of the numbered bulletin of node 0 or 1 to node 0.
+fn hand_to_0(origin: u8, number: u32) -> Result<Event, Fail>
+    requires { origin < 16 }
+    ensures { IfOk result (λ e. e ≡ Hands 0 origin number) }
+{
+    Ok(Event::Hand {
+        to: numbered_node(0)?,
+        origin: numbered_node(origin)?,
+        number,
+    })
+}
+
+fn removal(at: u8, gone: u8) -> Result<Event, Fail>
+    ensures { IfOk result (λ e. e ≡ Removes at gone) }
+{
+    Ok(Event::Remove {
+        at: numbered_node(at)?,
+        gone: numbered_node(gone)?,
+    })
+}
+
+fn crash(number: u8) -> Result<Event, Fail>
+    ensures { IfOk result (λ e. e ≡ Crashes number) }
+{
+    Ok(Event::Crash {
+        node: numbered_node(number)?,
+    })
+}
+
+/// Two nodes crash and are removed. One Final of them comes after the first sweep, and the second finds both lost.
+fn two_lost(alloc: Global) -> Result<History, Fail>
+    ensures cluster { IfOk result (λ h. h.cluster ≡ cluster 4 1) }
+    ensures past { IfOk result (λ h. h.past ≡ Sweeps 0 ∷ two_nodes_lost_together) }
+{
+    let node = numbered_node(0)?;
+    let events = vec![in alloc;
+        Event::Seed { node },
+        crash(2)?,
+        crash(3)?,
+        removal(0, 2)?,
+        removal(0, 3)?,
+        removal(1, 2)?,
+        removal(1, 3)?,
+        hand_to_0(0, 0)?,
+        hand_to_0(0, 1)?,
+        hand_to_0(1, 0)?,
+        Event::Sweep { node },
+        hand_to_0(1, 1)?,
+        Event::Sweep { node },
+    ]?;
+    history_of(alloc, 4, events)
+}
+
+/// The cut of two bulletins of node 0 and one of node 1.
+fn two_and_one() -> Result<Cut, Fail>
+    ensures { IfOk result (λ c. c ≡ 2 ∷ 1 ∷ replicate 14 0) }
+{
+    let node = numbered_node(0)?;
+    let mut cut = Cut::zero();
+    cut.raise(node);
+    cut.raise(node);
+    cut.raise(numbered_node(1)?);
+    Ok(cut)
+}
+
+/// What the first sweep finds.
+fn none_lost_found(alloc: Global) -> Result<Verdict, Fail>
+    ensures { IfOk result (λ v. IsVerdict (cluster 4 1) 0 two_nodes_crashed v) }
+{
+    Ok(Verdict {
+        node: numbered_node(0)?,
+        cut: two_and_one()?,
+        lost: NodeSet::empty(),
+        stops: StopList::new(alloc),
+    })
+}
+
+/// What the second one finds.
+fn two_lost_found(alloc: Global) -> Result<Verdict, Fail>
+    ensures { IfOk result (λ v. IsVerdict (cluster 4 1) 0 two_nodes_lost_together v) }
+{
+    let mut cut = two_and_one()?;
+    cut.raise(numbered_node(1)?);
+    let lost = NodeSet::empty().with(numbered_node(2)?);
+    Ok(Verdict {
+        node: numbered_node(0)?,
+        cut,
+        lost: lost.with(numbered_node(3)?),
+        stops: StopList::new(alloc),
+    })
+}
+
+#[test]
+fn two_lost_nodes_are_reported(rt: HostRuntime) -> Result<(), Fail> {
+    let history = two_lost(rt.alloc())?;
+    let verdicts = [none_lost_found(rt.alloc())?, two_lost_found(rt.alloc())?];
+    let full = report(rt.alloc(), &history, &verdicts, false)?;
+    assert_eq!(rt; full.as_slice(), TWO_NODES_LOST.as_bytes());
+    let brief = report(rt.alloc(), &history, &verdicts, true)?;
+    assert_eq!(rt; brief.as_slice(), TWO_NODES_LOST_BRIEF.as_bytes());
     Ok(())
 }
