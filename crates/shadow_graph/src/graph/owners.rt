@@ -69,7 +69,7 @@ impl ShadowGraph {
     }
 
     /// The actor at the place.
-    fn actor(&self, place: u32) -> ActorId
+    pub(super) fn actor(&self, place: u32) -> ActorId
         requires { place < length self.now.shadows.names }
         ensures { result ≡ actor_of self.now place }
     {
