@@ -4,6 +4,7 @@ pub mod ListsLaws
 pub mod ShapesLaws
 pub mod FreeLaws
 pub mod LinesLaws
+pub mod FaultsLaws
 pub mod WordsLaws
 pub mod MembersLaws
 pub mod HeaderLaws
