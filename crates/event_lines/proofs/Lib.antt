@@ -5,6 +5,7 @@ pub mod ShapesLaws
 pub mod FreeLaws
 pub mod LinesLaws
 pub mod FaultsLaws
+pub mod ExtraLaws
 pub mod WordsLaws
 pub mod MembersLaws
 pub mod HeaderLaws
