@@ -4,6 +4,7 @@ pub mod ListsLaws
 pub mod ShapesLaws
 pub mod FreeLaws
 pub mod LinesLaws
+pub mod FieldFaults
 pub mod FaultsLaws
 pub mod ExtraLaws
 pub mod WordsLaws
