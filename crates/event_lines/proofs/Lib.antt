@@ -4,6 +4,9 @@ pub mod ListsLaws
 pub mod ShapesLaws
 pub mod FreeLaws
 pub mod LinesLaws
+pub mod FieldFaults
+pub mod FaultsLaws
+pub mod ExtraLaws
 pub mod WordsLaws
 pub mod MembersLaws
 pub mod HeaderLaws

@@ -19,11 +19,11 @@ use Rattle.event_lines.proofs.PiecesLaws.{join-pieces, pieces-join}
 use Rattle.event_lines.proofs.ShapesLaws.{bind-ok, cut_fields-ok, cut_fields-words, end_fields-ok, end_fields-words, link_number-ok, link_number-words, made, message-ok, message-words, one_actor-ok, one_actor-words, one_node-ok, one_node-words, stop_fields-ok, stop_fields-words, stop_rest, two_actors-ok, two_actors-words, two_nodes-ok, two_nodes-words}
 
 -- the words spell the line, which may be printed
-abbrev IsSpelledBy : List ℕ → List (List ℕ) → Line → Type 0
+abbrev pub IsSpelledBy : List ℕ → List (List ℕ) → Line → Type 0
 IsSpelledBy w ws l = IsPrintable l × (line_words l ≡ w ∷ ws)
 
 -- each form of the table makes lines that are spelled by its first word and the words of its fields
-abbrev AreSpelled : {A : Type 0} → (A → Type 0) → (A → List (List ℕ)) → List (Form A) → Type 0
+abbrev pub AreSpelled : {A : Type 0} → (A → Type 0) → (A → List (List ℕ)) → List (Form A) → Type 0
 AreSpelled IsGood words forms = AllByRecursion (λ form. (x : _) → IsGood x → IsSpelledBy form.0 (words x) (form.1 x)) forms
 
 module _ {A : Type 0} (fields : Result A LineFault) (IsGood : A → Type 0) (words : A → List (List ℕ)) (w : List ℕ) (ws : List (List ℕ)) (faithful : (x : A) → fields ≡ Ok x → IsGood x × (ws ≡ words x)) where

@@ -22,7 +22,7 @@ bind-ok (Err fault) f y e go = absurd cc
 pub made : {A : Type 0} {E : Type 0} (P : A → Type 0) (x y : A) → ◌≡◌ {A = Result A E} (Ok x) (Ok y) → P x → P y
 made P x y e h = let same : x ≡ y = cc in subst P same h
 
-field-ok : {A : Type 0} (o : Option A) (x : A) → field o ≡ Ok x → o ≡ Some x
+pub field-ok : {A : Type 0} (o : Option A) (x : A) → field o ≡ Ok x → o ≡ Some x
 field-ok None x e = absurd cc
 field-ok (Some y) x e = ap Some (let same : y ≡ x = cc in same)
 
@@ -32,17 +32,17 @@ ended-ok (w ∷ ws) u e = absurd cc
 
 -- each field is read from its word, at any place
 
-node_field-ok : (k : ℕ) (ws : List (List ℕ)) (n : ℕ) → node_field (drop k ws) ≡ Ok n → (n < 16) × (drop k ws ≡ decimal n ∷ drop (k + 1) ws)
+pub node_field-ok : (k : ℕ) (ws : List (List ℕ)) (n : ℕ) → node_field (drop k ws) ≡ Ok n → (n < 16) × (drop k ws ≡ decimal n ∷ drop (k + 1) ws)
 node_field-ok k ws n e =
     let s = first_number-some 16 n (drop k ws) (field-ok _ n e) in
     (s.0, s.1 ∙ ap (λ l. decimal n ∷ l) (drop-drop 1 k ws))
 
-number_field-ok : (k : ℕ) (ws : List (List ℕ)) (n : ℕ) → number_field (drop k ws) ≡ Ok n → (n < 2 ^ 32) × (drop k ws ≡ decimal n ∷ drop (k + 1) ws)
+pub number_field-ok : (k : ℕ) (ws : List (List ℕ)) (n : ℕ) → number_field (drop k ws) ≡ Ok n → (n < 2 ^ 32) × (drop k ws ≡ decimal n ∷ drop (k + 1) ws)
 number_field-ok k ws n e =
     let s = first_number-some (2 ^ 32) n (drop k ws) (field-ok _ n e) in
     (s.0, s.1 ∙ ap (λ l. decimal n ∷ l) (drop-drop 1 k ws))
 
-actor_field-ok : (k : ℕ) (ws : List (List ℕ)) (a : Actor) → actor_field (drop k ws) ≡ Ok a → IsActor a × (drop k ws ≡ actor_word a ∷ drop (k + 1) ws)
+pub actor_field-ok : (k : ℕ) (ws : List (List ℕ)) (a : Actor) → actor_field (drop k ws) ≡ Ok a → IsActor a × (drop k ws ≡ actor_word a ∷ drop (k + 1) ws)
 actor_field-ok k ws a e =
     let s = first_actor-some a (drop k ws) (field-ok _ a e) in
     (s.0, s.1 ∙ ap (λ l. actor_word a ∷ l) (drop-drop 1 k ws))
@@ -59,7 +59,7 @@ name_field-ok : (text : List ℕ) (k : ℕ) (ws : List (List ℕ)) (u : Unit {0}
 name_field-ok text k ws u e =
     first_name-some text (drop k ws) u (field-ok _ u e) ∙ ap (λ l. text ∷ l) (drop-drop 1 k ws)
 
-named_number-ok : (text : List ℕ) (k : ℕ) (ws : List (List ℕ)) (n : ℕ) → named_number text (drop k ws) ≡ Ok n → (n < 2 ^ 32) × (drop k ws ≡ text ∷ decimal n ∷ drop (k + 2) ws)
+pub named_number-ok : (text : List ℕ) (k : ℕ) (ws : List (List ℕ)) (n : ℕ) → named_number text (drop k ws) ≡ Ok n → (n < 2 ^ 32) × (drop k ws ≡ text ∷ decimal n ∷ drop (k + 2) ws)
 named_number-ok text k ws n e = bind-ok _ _ n e (λ u eu en.
     let name = name_field-ok text 0 (drop k ws) u eu in
     let number = number_field-ok 1 (drop k ws) n en in
@@ -103,7 +103,7 @@ lost-here : (most : ℕ) (w : List ℕ) (ws : List (List ℕ)) (r : List ℕ × 
 lost-here most w ws r same e =
     made (IsCounted most (w ∷ ws)) ([], ws) r e (tt, omega arith, ap (λ v. v ∷ ws) ((bytes_eq-Decides w (codes "lost")).0 same))
 
-before_lost-ok : (most : ℕ) (ws : List (List ℕ)) (r : List ℕ × List (List ℕ)) → before_lost most ws ≡ Ok r → IsCounted most ws r
+pub before_lost-ok : (most : ℕ) (ws : List (List ℕ)) (r : List ℕ × List (List ℕ)) → before_lost most ws ≡ Ok r → IsCounted most ws r
 before_lost-ok most [] r e = absurd cc
 before_lost-ok zero (w ∷ ws) r e = chosen (bytes_eq w (codes "lost")) refl e where
   chosen : (b : Bool) → bytes_eq w (codes "lost") ≡ b → ◌≡◌ {A = Result (List ℕ × List (List ℕ)) LineFault} (cond b (Ok ([], ws)) (field None)) (Ok r) → IsCounted zero (w ∷ ws) r
@@ -135,7 +135,7 @@ before_lost-words zero (n ∷ ns) ws h few = absurd (omega arith)
 before_lost-words (suc most) (n ∷ ns) ws h few =
     rw (lost-no_number n h.0, number_of-decimal (2 ^ 32) n (omega arith) h.0, before_lost-words most ns ws h.1 (omega arith)) refl
 
-some-ok : (ns : List ℕ) (u : Unit {0}) → some_of ns ≡ Ok u → 1 ≤ length ns
+pub some-ok : (ns : List ℕ) (u : Unit {0}) → some_of ns ≡ Ok u → 1 ≤ length ns
 some-ok [] u e = absurd cc
 some-ok (n ∷ ns) u e = omega arith
 

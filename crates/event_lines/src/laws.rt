@@ -1,8 +1,10 @@
 //! Laws of the spelling. Each function does nothing, and its contract is the law.
-ghost use Rattle.std.specs.Prelude.{◌≡◌, ℕ, List, Ok};
+ghost use Rattle.std.specs.Prelude.{◌≡◌, ◌∷◌, ◌++◌, false, ℕ, List, Some, Ok, Err, slice_get};
 ghost use Rattle.journal_model.specs.declared.lines.Line.{Line};
+ghost use Rattle.journal_model.specs.declared.lines.LineFault.TheVariants.{Extra, Word};
+ghost use Rattle.journal_model.specs.Fields.{pieces};
 ghost use Rattle.journal_model.specs.Lines.{IsPrintable, spelling};
-ghost use Rattle.journal_model.specs.Reading.{read_line};
+ghost use Rattle.journal_model.specs.Reading.{is_first_word, read_line};
 
 /// What is read of a line may be printed, and the line is its spelling.
 pub fn what_is_read_is_spelled_so()
@@ -17,4 +19,15 @@ pub fn what_is_spelled_is_read_so()
 /// No two lines are spelled alike.
 pub fn no_two_lines_are_spelled_alike()
     ensures { (k l : Line) → IsPrintable k → IsPrintable l → spelling k ≡ spelling l → k ≡ l }
+{}
+
+/// The fault of a line is that of its word exactly where no form has its first word.
+pub fn a_word_is_refused_where_no_form_has_it()
+    ensures told { (bytes w : List ℕ) → slice_get (pieces 32 bytes) 0 ≡ Some w → read_line bytes ≡ Err Word → is_first_word w ≡ false }
+    ensures only { (bytes w : List ℕ) → slice_get (pieces 32 bytes) 0 ≡ Some w → is_first_word w ≡ false → read_line bytes ≡ Err Word }
+{}
+
+/// A line has words too much only where a space and more follow the spelling of a line.
+pub fn words_too_much_follow_a_line()
+    ensures { (bytes : List ℕ) → read_line bytes ≡ Err Extra → (l : Line) × (more : List ℕ) × IsPrintable l × (bytes ≡ spelling l ++ 32 ∷ more) }
 {}

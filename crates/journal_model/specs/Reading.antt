@@ -1,5 +1,6 @@
 -- What a line says, or its first fault.
-use Rattle.std.specs.Prelude.{ℕ, if◌then◌else◌, List, [], ◌∷◌, codes, Result, Ok, Err}
+use Rattle.std.specs.Prelude.{ℕ, ◌||◌, Bool, if◌then◌else◌, List, [], ◌∷◌, codes, Result, Ok, Err}
+use Rattle.std.specs.List.{list_any}
 use Rattle.std.specs.Str.{bytes_eq}
 use Rattle.crgc_ids.specs.Actor.{Actor}
 use Rattle.history_model.specs.declared.events.Event.TheVariants.{Seed, Tie, Wake, Take, Spawn, Send, Drop, Retire, Rest, Flush, Publish, Window, Admit, Lose, Repeat, Crash, Remove, Hand, Sweep}
@@ -48,6 +49,17 @@ stop_forms = (codes "stop", λ s. lines.Stop s.0 s.1) ∷ []
 
 abbrev pub end_forms : List (Form (ℕ × ℕ))
 end_forms = (codes "end", λ e. lines.End e.0 e.1) ∷ []
+
+-- the word is the first one of a form of the table
+abbrev pub is_in_table : {A : Type 0} → List (Form A) → List ℕ → Bool
+is_in_table forms word = list_any (λ form. bytes_eq word form.0) forms
+
+-- the word is the first one of some form
+abbrev pub is_first_word : List ℕ → Bool
+is_first_word word =
+    is_in_table message_forms word || (is_in_table cut_forms word || (is_in_table stop_forms word || (is_in_table actor_forms word
+    || (is_in_table node_forms word || (is_in_table actor_pair_forms word || (is_in_table node_pair_forms word
+    || (is_in_table link_forms word || is_in_table end_forms word)))))))
 
 -- the line that one of the forms makes of what the fields say, where the word is its first one; else the other line
 abbrev pub by_form : {A : Type 0} → List (Form A) → Result A LineFault → List ℕ → Result Line LineFault → Result Line LineFault
