@@ -3,6 +3,7 @@
 
 mod acting;
 mod applied;
+mod apply;
 mod both;
 mod flushing;
 mod lawful;
@@ -19,5 +20,7 @@ mod world;
 pub use applied::{Applied, Told};
 pub use world::World;
 
+#[cfg(test)]
+mod apply_tests;
 #[cfg(test)]
 mod tests;
