@@ -7,3 +7,6 @@ mod trace;
 
 pub use marks::{Marks, mark};
 pub use trace::Trace;
+
+#[cfg(test)]
+mod tests;

@@ -14,3 +14,4 @@ pub mod FoldLemmas
 pub mod EmptyLemmas
 pub mod SeenLemmas
 pub mod PlacedLemmas
+pub mod OwnersLemmas

@@ -1,14 +1,14 @@
 -- Each actor has its place, and each pair is listed at the places of both.
-use Rattle.std.proofs.Common.{◌≡◌, ◌<◌, ◌≤◌, ◌↔◌, ◌||◌, ◌-ℤ◌, ℕ, ℤ, SFits, of_z, pos, to_z, w64, zero, suc, Bool, true, false, cond, List, [], ◌∷◌, length, get_or, map, refl, sym, ◌∙◌, ap, subst, inl, inr, arith}
-use Rattle.std.proofs.lemmas.Bool.{eq-eqb, false≢true, ne_eqb}
+use Rattle.std.proofs.Common.{◌≡◌, ◌<◌, ◌||◌, ◌-ℤ◌, ℕ, ℤ, SFits, of_z, pos, to_z, w64, zero, suc, Bool, true, false, cond, List, [], ◌∷◌, length, get_or, map, refl, sym, ◌∙◌, ap, subst, inl, inr, arith}
+use Rattle.std.proofs.lemmas.Bool.{eq-eqb, eqb-true, false_from_ne_true, false≢true}
 use Rattle.std.proofs.lemmas.Int.{to_z-of_z}
 use Rattle.std.proofs.lemmas.List.Sums.{passes_at_first, position_or_len_is}
 use Rattle.std.proofs.lemmas.Map.Keys.{apart_from_distinct}
 use Rattle.std.specs.Bool.{Decides}
-use Rattle.std.specs.List.{AllByRecursion, IsDistinct, list_any, position_or_len}
+use Rattle.std.specs.List.{IsDistinct, filter, list_any, position_or_len}
 use Rattle.std.specs.Prelude.{nat_eq}
 use Rattle.crgc_ids.proofs.ActorLaws.{same_actor-decides}
-use Rattle.crgc_ids.proofs.MembersLaws.{all-from_members}
+use Rattle.crgc_ids.proofs.MembersLaws.{IsAmong-from_filter, all-from_members, all-member}
 use Rattle.crgc_ids.specs.Actor.{Actor, same_actor}
 use Rattle.crgc_ids.specs.Members.{IsAmong}
 use Rattle.edge_table.proofs.ListedLemmas.{listed, numbers-distinct}
@@ -50,23 +50,31 @@ any-at test (x ∷ xs) (suc i) d inside passes =
     elim (test x) as (λ b. (b || list_any test xs) ≡ true) [ true ↦ refl | false ↦ later ]
 
 -- what differs by a function that tells them apart stays distinct
-distinct-map : (f : ℕ → ℕ) (xs : List ℕ) → IsDistinct nat_eq xs → ((n m : ℕ) → IsAmong n xs → IsAmong m xs → f n ≡ f m → n ≡ m) → IsDistinct nat_eq (map f xs)
+pub distinct-map : {Y : Type 0} (same : Y → Y → Bool) (told : (x y : Y) → Decides (same x y) (x ≡ y)) (f : ℕ → Y) (xs : List ℕ) → IsDistinct nat_eq xs → ((n m : ℕ) → IsAmong n xs → IsAmong m xs → f n ≡ f m → n ≡ m) → IsDistinct same (map f xs)
 unfolding IsDistinct
-distinct-map f [] distinct one = tt
-distinct-map f (x ∷ xs) distinct one = (
-  all-from_members (λ y. nat_eq (f x) y ≡ false) (map f xs) (λ y h. (
+distinct-map same told f [] distinct one = tt
+distinct-map same told f (x ∷ xs) distinct one = (
+  all-from_members (λ y. same (f x) y ≡ false) (map f xs) (λ y h. (
       let there = among-from_map f y xs h in
-      ne_eqb (f x) y (λ e. differs there.0 there.1 (one x there.0 (inl refl) (inr there.1) (e ∙ there.2)))
+      false_from_ne_true (same (f x) y) (λ t. differs there.0 there.1 (one x there.0 (inl refl) (inr there.1) ((told (f x) y).0 t ∙ there.2)))
       )),
-  distinct-map f xs distinct.1 (λ n m h k. one n m (inr h) (inr k)),
+  distinct-map same told f xs distinct.1 (λ n m h k. one n m (inr h) (inr k)),
 )
   where
-    later : (n : ℕ) (ys : List ℕ) → AllByRecursion (λ y. nat_eq x y ≡ false) ys → IsAmong n ys → nat_eq x n ≡ false
-    later n [] all h = absurd h
-    later n (y ∷ ys) all h = elim h [ inl e ↦ ap (nat_eq x) e ∙ all.0 | inr more ↦ later n ys all.1 more ]
-
     differs : (n : ℕ) → IsAmong n xs → x ≡ n → ⊥
-    differs n h e = false≢true (sym (later n xs distinct.0 h) ∙ eq-eqb x n e)
+    differs n h e = false≢true (sym (all-member (λ y. nat_eq x y ≡ false) n xs distinct.0 h) ∙ eq-eqb x n e)
+
+-- and so do those of them that a test lets through
+pub distinct-filter : (test : ℕ → Bool) (xs : List ℕ) → IsDistinct nat_eq xs → IsDistinct nat_eq (filter test xs)
+unfolding IsDistinct
+distinct-filter test [] distinct = tt
+distinct-filter test (x ∷ xs) distinct =
+    let later = distinct-filter test xs distinct.1 in
+    let apart = all-from_members (λ y. nat_eq x y ≡ false) (filter test xs) (λ y h. all-member (λ y. nat_eq x y ≡ false) y xs distinct.0 (IsAmong-from_filter test y xs h).0) in
+    elim (test x) as (λ b. IsDistinct nat_eq (cond b (x ∷ filter test xs) (filter test xs))) [ true ↦ (apart, later) | false ↦ later ]
+
+pub same_number : (n m : ℕ) → Decides (nat_eq n m) (n ≡ m)
+same_number n m = (eqb-true n m, eq-eqb n m)
 
 -- ---- keys and their places
 
@@ -257,12 +265,12 @@ placed g room keyed = record {
         subst (λ x. IsAmong x (owners_of g k)) found.2 (among-map (λ n. (edge_at g.edges n).owner) found.0 (edges_to g.edges.edges k) to)
         )),
   );
-  targets_once = λ p. distinct-map (λ n. (edge_at g.edges n).target) (edges_from g.edges.edges p) (numbers-distinct p 0 (map owner_of g.edges.edges)) (λ n m h k same. (
+  targets_once = λ p. distinct-map nat_eq same_number (λ n. (edge_at g.edges n).target) (edges_from g.edges.edges p) (numbers-distinct p 0 (map owner_of g.edges.edges)) (λ n m h k same. (
       let a = (listed owner_of refl g.edges.edges p n).0 h in
       let b = (listed owner_of refl g.edges.edges p m).0 k in
       one-edge g.shadows.names (record g.edges { places = room }) keyed n m a.0 b.0 (a.1 ∙ sym b.1) same
       ));
-  owners_once = λ k. distinct-map (λ n. (edge_at g.edges n).owner) (edges_to g.edges.edges k) (numbers-distinct k 0 (map target_of g.edges.edges)) (λ n m h l same. (
+  owners_once = λ k. distinct-map nat_eq same_number (λ n. (edge_at g.edges n).owner) (edges_to g.edges.edges k) (numbers-distinct k 0 (map target_of g.edges.edges)) (λ n m h l same. (
       let a = (listed target_of refl g.edges.edges k n).0 h in
       let b = (listed target_of refl g.edges.edges k m).0 l in
       one-edge g.shadows.names (record g.edges { places = room }) keyed n m a.0 b.0 same (a.1 ∙ sym b.1)

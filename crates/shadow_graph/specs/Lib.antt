@@ -8,3 +8,4 @@ pub mod Taken
 pub mod Kept
 pub mod Seen
 pub mod Places
+pub mod Owners

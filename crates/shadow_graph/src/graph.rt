@@ -14,6 +14,7 @@ ghost use Rattle.shadow_graph.specs.Stands.{IsGraphOf};
 ghost use Rattle.shadow_graph.specs.Taken.{ClosesLink, FoldsIn, IsLinked, TakesIn};
 
 mod by_place;
+mod owners;
 
 use crate::add::add_delta;
 use crate::found::{blank, edge_between, no_edge, shadow_of};

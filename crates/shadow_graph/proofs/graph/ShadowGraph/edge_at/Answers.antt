@@ -1,4 +1,4 @@
-use Rattle.std.proofs.Common.{◌≡◌, ◌<◌, ◌∙◌, SFits, ap, arith, get_or, length, map, rules, subst, sym, w64}
+use Rattle.std.proofs.Common.{◌≡◌, ◌<◌, ◌∙◌, SFits, ap, arith, get_or, length, rules, subst, sym, w64}
 use Rattle.std.proofs.lemmas.List.{length-map}
 use Rattle.edge_table.specs.Table.{edge_at, edges_from}
 use Rattle.edge_table.specs.declared.table.Edge.{Edge}

@@ -1,4 +1,4 @@
-use Rattle.std.proofs.Common.{◌≡◌, ◌<◌, ◌-ℤ◌, ◌∙◌, SFits, ap, arith, cond, get_or, length, map, pos, rules, subst, sym, w64}
+use Rattle.std.proofs.Common.{◌≡◌, ◌<◌, ◌-ℤ◌, ◌∙◌, SFits, ap, arith, cond, get_or, length, pos, rules, subst, sym, w64}
 use Rattle.std.proofs.lemmas.List.{length-map}
 use Rattle.edge_table.specs.Table.{edge_at, edges_to, no_edge}
 use Rattle.edge_table.specs.declared.table.Edge.{Edge}
