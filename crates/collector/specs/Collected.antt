@@ -39,9 +39,13 @@ has_number c o k = nat_lt k (cut_of c o) || is_some (kept_at c.order o k)
 abbrev pub IsSettled : Collected → Type 0
 IsSettled c = (o : ℕ) → kept_at c.order o (cut_of c o) ≡ None
 
+-- the flag at a number, which is not set beyond the list's end
+abbrev pub flag_at : List Bool → ℕ → Bool
+flag_at flags k = unwrap_or (slice_get flags k) false
+
 -- whether the collector stopped the actor
 abbrev pub was_stopped : Collected → Actor → Bool
-was_stopped c a = (a.node == c.node) && unwrap_or (slice_get c.stopped a.serial) false
+was_stopped c a = (a.node == c.node) && flag_at c.stopped a.serial
 
 -- ---- what it was given
 

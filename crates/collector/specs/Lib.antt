@@ -3,3 +3,4 @@ pub mod Collected
 pub mod Taking
 pub mod Kept
 pub mod Following
+pub mod Sweeping

@@ -1,14 +1,21 @@
 //! The collector.
 ghost use Rattle.std.specs.Prelude.{◌≡◌, ◌+◌, ◌<◌, ◌≤◌, true, false, Ok, IfErr, IfOk, OnErr, OnOk, length, sum};
 ghost use Rattle.gossip_core.specs.Gossip.{IsFirstMissing};
-ghost use Rattle.collector.specs.Collected.{IsNew, IsSettled, node_count};
+ghost use Rattle.shadow_graph.specs.Places.{ArePlaced, actor_of};
+ghost use Rattle.pseudoroot_trace.specs.Marked.{IsSweepOf};
+ghost use Rattle.collector.specs.Collected.{IsNew, IsSettled, node_count, was_stopped};
+ghost use Rattle.collector.specs.Kept.{IsKept};
 ghost use Rattle.collector.specs.Refusals.{IsFit, IsRefusal, read_as};
+ghost use Rattle.collector.specs.Sweeping.{Compacts, DropsAt, Finds, Sweeps};
 ghost use Rattle.collector.specs.Taking.{Folds, IsAnswer, IsTaken, Keeps, LeavesAsWas, Takes};
 
 use crate::read::{TakeFault, read_whole};
-use crgc_ids::{Cut, NoMemory, NodeId};
+use crate::stopped::{is_set, make_room, set_all};
+use crate::stops::{actor_at, find_stopped, stops_of};
+use crgc_ids::{ActorId, Cut, NoMemory, NodeId};
 use gossip_core::GossipCore;
-use history_model::Bulletin;
+use history_model::{Bulletin, StopList, Verdict};
+use pseudoroot_trace::{Marks, mark};
 use shadow_graph::ShadowGraph;
 use std::alloc::Global;
 use std::marker::Model;
@@ -188,4 +195,82 @@ impl Collector {
         self.order.advance(origin);
         Ok(true)
     }
+
+    /// The verdict of the node's sweep at the cut: it stops each actor of its node that is known, not on a lost node, not marked
+    /// and not stopped before, and says why. Whom it stops is remembered. After `NoMemory` all is as before. Linear time in the
+    /// graph, and in proportion to n log n for n stops and their owners.
+    pub fn sweep(&mut self) -> Result<Verdict, NoMemory>
+        requires { IsSettled self.old }
+        ensures ok { IfOk result (Sweeps self.old self.new) }
+        ensures err { OnErr result (self.new ≡ self.old) }
+    {
+        let (found, stops) = self.find_stops()?;
+        make_room(&mut self.stopped, found.as_slice())?;
+        set_all(&mut self.stopped, found.as_slice());
+        Ok(Verdict {
+            node: self.node,
+            cut: self.order.cut(),
+            lost: self.graph.lost(),
+            stops,
+        })
+    }
+
+    /// The actors that a sweep stops now, rising, and their stops.
+    fn find_stops(&self) -> Result<(Vec<ActorId>, StopList), NoMemory>
+        ensures { IfOk result (λ r. Finds self.now r.0.items r.1) }
+    {
+        let marks = marks_over(self.alloc, &self.graph)?;
+        let stopped = self.stopped.as_slice();
+        let found = find_stopped(self.alloc, &self.graph, &marks, self.node, stopped)?;
+        let stops = stops_of(self.alloc, &self.graph, found.as_slice())?;
+        Ok((found, stops))
+    }
+
+    /// Whom this collector stopped is dropped from its graph: later verdicts are the same without them. It takes no memory.
+    /// Linear time in the number of places, on average.
+    pub fn compact(&mut self)
+        ensures { Compacts self.old self.new }
+    {
+        for place in 0..self.place_count() {
+            self.drop_if_stopped(place);
+        }
+    }
+
+    /// How many places the graph has.
+    fn place_count(&self) -> u32
+        ensures count { result ≡ length self.now.graph.shadows.names }
+        ensures placed { ArePlaced self.now.graph }
+        ensures kept { IsKept self.now }
+    {
+        self.graph.place_count()
+    }
+
+    /// The actor at the place is dropped, if this collector stopped it.
+    fn drop_if_stopped(&mut self, place: u32)
+        requires { place < length self.old.graph.shadows.names }
+        ensures { DropsAt self.old self.new (actor_of self.old.graph place) }
+    {
+        let actor = actor_at(&self.graph, place);
+        if !self.is_stopped(actor) {
+            return;
+        }
+        self.graph.drop_actor(actor);
+    }
+
+    /// Whether this collector stopped the actor.
+    fn is_stopped(&self, actor: ActorId) -> bool
+        ensures { result ≡ was_stopped self.now actor }
+    {
+        actor.node() == self.node && is_set(self.stopped.as_slice(), actor.serial())
+    }
+}
+
+/// The marks of a sweep over the graph.
+fn marks_over(alloc: Global, graph: &ShadowGraph) -> Result<Marks, NoMemory>
+    ensures { IfOk result (IsSweepOf graph.now) }
+{
+    let mut marks = Marks::new(alloc);
+    marks.reserve(graph)?;
+    mark(graph, &mut marks);
+    Ok(marks)
 }

@@ -4,6 +4,8 @@
 mod collector;
 pub mod laws;
 mod read;
+mod stopped;
+mod stops;
 
 pub use collector::{Collector, Taken};
 pub use read::TakeFault;
