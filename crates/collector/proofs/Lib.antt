@@ -5,3 +5,5 @@ pub mod TakeLemmas
 pub mod SweepLemmas
 pub mod HistoryLemmas
 pub mod FollowLemmas
+pub mod VerdictLemmas
+pub mod GoneLemmas

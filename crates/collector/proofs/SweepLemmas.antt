@@ -136,7 +136,7 @@ module _ (g : Graph) (marks : MarkedActors) (node : ℕ) (stopped : List Bool) w
   found-left = all-from_members (λ a. is_dropped g a ≡ false) found
       (λ a member. not-true (is_dropped g a) (and_parts (is_named g.shadows.names a) (not (is_dropped g a)) (found-falls a member).1.known).1)
 
-eqb-is : (m n : ℕ) → m ≡ n → (m == n) ≡ true
+pub eqb-is : (m n : ℕ) → m ≡ n → (m == n) ≡ true
 eqb-is m n e = grind (arith, nat_tests)
 
 both-true : (b c : Bool) → b ≡ true → c ≡ true → (b && c) ≡ true

@@ -55,7 +55,7 @@ read_fault nodes origin bytes reads.NoMemory fails = tt
 
 -- ---- a collector that is new
 
-no-count : (o : ℕ) → slice_index (replicate 16 0) o ≡ 0
+pub no-count : (o : ℕ) → slice_index (replicate 16 0) o ≡ 0
 no-count o = none 16 o
   where
     none : (n o : ℕ) → slice_index (replicate n 0) o ≡ 0
