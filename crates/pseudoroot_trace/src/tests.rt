@@ -65,11 +65,14 @@ fn marked(
     Ok((marks.is_marked(first), marks.is_marked(second)))
 }
 
-/// Which of two actors of node 0 are marked, where the second is idle, and the first, of which no entry tells, holds so many
-/// references to it.
-fn marked_with(alloc: Global, count: u32) -> Result<(bool, bool), Fail> {
+/// The graph where the second actor of node 0 is idle, and the first, of which no entry tells, holds so many references to it.
+fn graph_with(
+    alloc: Global,
+    first: ActorId,
+    second: ActorId,
+    count: u32,
+) -> Result<ShadowGraph, Fail> {
     let node = node(0)?;
-    let (first, second) = (actor(node, 0)?, actor(node, 1)?);
     let mut states = StateRows::new(alloc);
     states.push(StateRow {
         actor: second,
@@ -85,8 +88,34 @@ fn marked_with(alloc: Global, count: u32) -> Result<(bool, bool), Fail> {
         created,
         released: PairCounts::new(alloc),
     };
-    let graph = folded(alloc, node, &Bulletin::Delta(delta))?;
+    folded(alloc, node, &Bulletin::Delta(delta))
+}
+
+/// Which of the two are marked.
+fn marked_with(alloc: Global, count: u32) -> Result<(bool, bool), Fail> {
+    let node = node(0)?;
+    let (first, second) = (actor(node, 0)?, actor(node, 1)?);
+    let graph = graph_with(alloc, first, second, count)?;
     marked(alloc, &graph, first, second)
+}
+
+/// How many actors are known, and how many own references to the actor.
+fn counts(graph: &ShadowGraph, actor: ActorId) -> Result<(usize, usize), Fail> {
+    let owners = graph.owners(actor)?;
+    Ok((graph.known_count(), owners.len()))
+}
+
+#[test]
+fn nobody_owns_an_actor_that_was_dropped(rt: HostRuntime) -> Result<(), Fail> {
+    let node = node(0)?;
+    let (first, second) = (actor(node, 0)?, actor(node, 1)?);
+    let mut graph = graph_with(rt.alloc(), first, second, 1)?;
+    assert_eq!(rt; counts(&graph, second)?, (2, 1));
+    if graph.place_of(second).is_some() {
+        graph.drop_actor(second);
+    }
+    assert_eq!(rt; counts(&graph, second)?, (1, 0));
+    Ok(())
 }
 
 #[test]
