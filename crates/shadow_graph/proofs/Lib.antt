@@ -15,3 +15,4 @@ pub mod EmptyLemmas
 pub mod SeenLemmas
 pub mod PlacedLemmas
 pub mod OwnersLemmas
+pub mod SameLemmas
