@@ -16,3 +16,4 @@ pub mod SeenLemmas
 pub mod PlacedLemmas
 pub mod OwnersLemmas
 pub mod SameLemmas
+pub mod SameFoldLemmas
