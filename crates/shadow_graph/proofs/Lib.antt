@@ -15,3 +15,5 @@ pub mod EmptyLemmas
 pub mod SeenLemmas
 pub mod PlacedLemmas
 pub mod OwnersLemmas
+pub mod SameLemmas
+pub mod SameFoldLemmas

@@ -17,7 +17,7 @@ use Rattle.edge_table.specs.declared.table.Edge.{Edge}
 use Rattle.shadow_table.proofs.KeyedLemmas.{place-within}
 use Rattle.shadow_table.specs.Shadows.{Shadows, blank, is_named, place_in, shadow_at}
 use Rattle.shadow_graph.proofs.PairLemmas.{same_pair-decides}
-use Rattle.shadow_graph.proofs.SeenLemmas.{none-passes, past-end}
+use Rattle.shadow_graph.proofs.SeenLemmas.{none-passes, past-end, unnamed-blank}
 use Rattle.shadow_graph.specs.Graph.{Graph}
 use Rattle.shadow_graph.specs.Pairs.{edge_between, has_pair}
 use Rattle.shadow_graph.specs.Places.{ArePlaced, actor_of, owners_of, targets_of}
@@ -228,13 +228,14 @@ pub between-value : (g : Graph) (b a : Actor) (e : Edge) (r : ℤ) → edge_betw
 between-value g b a e r between is fits =
     to_z-of_z w64 r fits ∙ is ∙ ap (λ x. pos (cond (is_dropped g a) no_edge x).given -ℤ pos (cond (is_dropped g a) no_edge x).released) (sym between)
 
-pub placed : (g : Graph) (room : ℕ) → AreKeyed g.shadows.names (record g.edges { places = room }) → ArePlaced g
-placed g room keyed = record {
+pub placed : (g : Graph) (room : ℕ) → AreKeyed g.shadows.names (record g.edges { places = room }) → length g.shadows.shadows ≡ length g.shadows.names → ArePlaced g
+placed g room keyed long = record {
   actor = λ p inside. (
     key-there same_actor same_actor-decides g.shadows.names no_actor p inside,
     key-place same_actor same_actor-decides g.shadows.names no_actor p keyed.actors inside,
   );
   place = λ a named. (place-within (same_actor a) g.shadows.names named, key-at same_actor same_actor-decides g.shadows.names no_actor a named);
+  unnamed = λ a none. unnamed-blank g.shadows a long none;
   none = λ b a apart. (
       let long = keyed.long in
       let last = none-passes (same_pair (b, a)) g.edges.pairs apart in

@@ -9,3 +9,4 @@ pub mod Kept
 pub mod Seen
 pub mod Places
 pub mod Owners
+pub mod Same

@@ -4,7 +4,7 @@ use Rattle.std.specs.List.{IsDistinct}
 use Rattle.crgc_ids.specs.Actor.{Actor}
 use Rattle.crgc_ids.specs.Members.{IsAmong}
 use Rattle.edge_table.specs.Table.{edge_at, edges_from, edges_to, no_edge}
-use Rattle.shadow_table.specs.Shadows.{is_named, place_in}
+use Rattle.shadow_table.specs.Shadows.{blank, is_named, place_in, shadow_at}
 use Rattle.shadow_graph.specs.Graph.{Graph}
 use Rattle.shadow_graph.specs.Pairs.{edge_between, has_pair}
 use Rattle.shadow_graph.specs.Tabled.{no_actor}
@@ -22,12 +22,13 @@ abbrev pub owners_of : Graph → ℕ → List ℕ
 owners_of g place = map (λ number. (edge_at g.edges number).owner) (edges_to g.edges.edges place)
 
 -- each place is that of one actor; each pair that a row named is listed once at the place of its owner and once at that of its
--- target, and nothing else is; of another pair nothing is kept
+-- target, and nothing else is; of another pair nothing is kept, and of another actor nothing is told
 pub record ArePlaced (g : Graph) : Type 0 where
   pub actor : (p : ℕ) → p < length g.shadows.names
       → (is_named g.shadows.names (actor_of g p) ≡ true) × (place_in g.shadows.names (actor_of g p) ≡ p)
   pub place : (a : Actor) → is_named g.shadows.names a ≡ true
       → (place_in g.shadows.names a < length g.shadows.names) × (actor_of g (place_in g.shadows.names a) ≡ a)
+  pub unnamed : (a : Actor) → is_named g.shadows.names a ≡ false → shadow_at g.shadows a ≡ blank
   pub none : (b a : Actor) → has_pair g.edges.pairs b a ≡ false → edge_between g.edges b a ≡ no_edge
   pub named : (b a : Actor) → has_pair g.edges.pairs b a ≡ true
       → (is_named g.shadows.names b ≡ true) × (is_named g.shadows.names a ≡ true)

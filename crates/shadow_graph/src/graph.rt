@@ -16,6 +16,7 @@ ghost use Rattle.shadow_graph.specs.Taken.{ClosesLink, FoldsIn, IsLinked, TakesI
 mod by_place;
 mod known;
 mod owners;
+mod same;
 
 use crate::add::add_delta;
 use crate::found::{blank, edge_between, no_edge, shadow_of};

@@ -1,8 +1,9 @@
 //! Laws of the definitions. Each function does nothing, and its contract is the law.
-ghost use Rattle.std.specs.Prelude.{◌≡◌, ◌<◌, ◌≤◌, ◌↔◌, ◌⊎◌, ◌∷◌, [], ℕ, Bool, List, length, not};
+ghost use Rattle.std.specs.Prelude.{◌≡◌, ◌<◌, ◌≤◌, ◌↔◌, ◌⊎◌, ◌∷◌, [], ℕ, Bool, List, count_by, length, not};
 ghost use Rattle.history_model.specs.declared.records.Bulletin.{Bulletin};
 ghost use Rattle.history_model.specs.Cluster.{Cluster};
 ghost use Rattle.history_model.specs.Folds.{Fold, links_into, lost_of};
+ghost use Rattle.crgc_ids.specs.Actor.{Actor};
 ghost use Rattle.crgc_ids.specs.Members.{IsAmong};
 ghost use Rattle.history_model.specs.MoreFolded.{IsLostToo, link_rows, own_rows, with_notice};
 ghost use Rattle.history_model.specs.Streams.{Notice};
@@ -12,6 +13,10 @@ ghost use Rattle.shadow_table.specs.Shadows.{Shadows};
 ghost use Rattle.undo_log.specs.declared.corrections.Correction.{Correction};
 ghost use Rattle.shadow_graph.specs.Graph.{AddsLog, AddsRows, Graph, Settles, lost_in};
 ghost use Rattle.shadow_graph.specs.Losing.{LosesNodes};
+ghost use Rattle.shadow_graph.specs.Owners.{AreOwners};
+ghost use Rattle.shadow_graph.specs.Places.{ArePlaced};
+ghost use Rattle.shadow_graph.specs.Same.{AreSame};
+ghost use Rattle.shadow_graph.specs.Seen.{is_dropped, is_known};
 ghost use Rattle.shadow_graph.specs.Taken.{TakesIn};
 ghost use Rattle.membership.specs.Noted.{links_of};
 ghost use Rattle.shadow_graph.specs.Stands.{CountsFold, IsGraphOf, LogsFold};
@@ -52,4 +57,18 @@ pub fn a_graph_takes_in_a_bulletin()
 /// The lost nodes of a graph that stands for a fold are those of the fold.
 pub fn a_graph_finds_the_lost_nodes()
     ensures { (cl : Cluster) (f : Fold) (g : Graph) → IsGraphOf cl f g → lost_in g ≡ lost_of cl f }
+{}
+
+/// Two graphs that stand for one fold and have the same dropped actors are the same to readers, whatever the order in which
+/// their bulletins came.
+pub fn graphs_of_one_fold_are_the_same()
+    ensures { (cl : Cluster) (f : Fold) (g h : Graph) → IsGraphOf cl f g → IsGraphOf cl f h
+        → ((a : Actor) → is_dropped g a ≡ is_dropped h a) → AreSame g h }
+{}
+
+/// In graphs that are the same to readers equally many actors are known, and the owners of each are the same.
+pub fn graphs_that_are_the_same_have_the_same_owners()
+    ensures known { (g h : Graph) → ArePlaced g → ArePlaced h → AreSame g h
+        → count_by (is_known g) g.shadows.names ≡ count_by (is_known h) h.shadows.names }
+    ensures owners { (g h : Graph) (a : Actor) (bs : List Actor) → AreSame g h → AreOwners g a bs → AreOwners h a bs }
 {}

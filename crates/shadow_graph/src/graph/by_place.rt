@@ -4,6 +4,7 @@ ghost use Rattle.edge_table.specs.Table.{edge_at, no_edge};
 ghost use Rattle.shadow_graph.specs.Pairs.{edge_between};
 ghost use Rattle.shadow_graph.specs.Places.{actor_of, owners_of, targets_of};
 ghost use Rattle.shadow_graph.specs.Seen.{is_dropped, seen_edge};
+ghost use Rattle.shadow_graph.specs.Tabled.{pair_at};
 
 use super::ShadowGraph;
 use edge_table::Edge;
@@ -56,11 +57,12 @@ impl ShadowGraph {
     }
 
     /// What is kept of the edge with this number, which is what is kept of the actors at its ends.
-    fn numbered(&self, number: u32) -> Edge
+    pub(super) fn numbered(&self, number: u32) -> Edge
         requires { number < length self.now.edges.edges }
         ensures edge { result ≡ edge_at self.now.edges number }
         ensures owner { result.owner < length self.now.shadows.names }
         ensures target { result.target < length self.now.shadows.names }
+        ensures pair { pair_at self.now.edges.pairs number ≡ (actor_of self.now result.owner, actor_of self.now result.target) }
         ensures between { edge_between self.now.edges (actor_of self.now result.owner) (actor_of self.now result.target) ≡ result }
         ensures given { result.given ≤ 4611686018427387904 }
         ensures released { result.released ≤ 4611686018427387904 }

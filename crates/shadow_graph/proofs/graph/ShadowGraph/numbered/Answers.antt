@@ -1,4 +1,4 @@
-use Rattle.std.proofs.Common.{◌<◌, ◌≤◌, length, subst, sym}
+use Rattle.std.proofs.Common.{◌<◌, ◌≤◌, ap, length, subst, sym, ◌∙◌}
 use Rattle.edge_table.specs.declared.table.Edge.{Edge}
 use Rattle.shadow_graph.proofs.KeptLemmas.{small-kept}
 use Rattle.shadow_graph.proofs.PlacedLemmas.{AreKeyed, IsEdge, name_at, numbered}
@@ -15,7 +15,8 @@ returns c =
       tabled = c.self.invariant.tabled;
     } in
     let inside = subst (λ (x : Graph). c.args.number < length x.edges.edges) (sym c.self.view_is) c.requires in
-    let is : IsEdge g.shadows.names g.edges c.edge.result = subst (IsEdge g.shadows.names g.edges) (sym c.edge.ensures.edge) (numbered g.shadows.names g.edges keyed c.args.number inside).edge in
+    let there = numbered g.shadows.names g.edges keyed c.args.number inside in
+    let is : IsEdge g.shadows.names g.edges c.edge.result = subst (IsEdge g.shadows.names g.edges) (sym c.edge.ensures.edge) there.edge in
     let small = small-kept g.shadows g.edges g.log g.finals g.lost g.cut c.self.invariant in
     let owner = name_at g.shadows.names c.edge.result.owner in
     let target = name_at g.shadows.names c.edge.result.target in
@@ -23,6 +24,10 @@ returns c =
       edge = c.edge.ensures.edge;
       owner = is.owner;
       target = is.target;
+      pair = λ i. (
+        (sym there.owner_is ∙ ap (λ (e : Edge). name_at g.shadows.names e.owner) (sym c.edge.ensures.edge)) i,
+        (sym there.target_is ∙ ap (λ (e : Edge). name_at g.shadows.names e.target) (sym c.edge.ensures.edge)) i,
+      );
       between = is.between;
       given = subst (λ (e : Edge). e.given ≤ 4611686018427387904) is.between (small.given owner target);
       released = subst (λ (e : Edge). e.released ≤ 4611686018427387904) is.between (small.released owner target);

@@ -10,4 +10,4 @@ returns-clause-placed c =
       long = c.edge_count-pairs.ensures.long;
       tabled = c.self.invariant.tabled;
     } in
-    rw (← c.self.view_is) (placed _ g.edges.places keyed)
+    rw (← c.self.view_is) (placed _ g.edges.places keyed c.place_count.ensures.shadows)
