@@ -19,7 +19,7 @@ use Rattle.std.specs.Prelude.{slice_index_or}
 use Rattle.undo_log.specs.Told.{rows_of}
 use Rattle.undo_log.specs.Totals.{admitted_total, told_total}
 use Rattle.shadow_graph.specs.Graph.{Graph}
-use Rattle.shadow_graph.specs.Pairs.{edge_between}
+use Rattle.shadow_rows.specs.Pairs.{edge_between}
 use Rattle.shadow_graph.specs.Stands.{IsGraphOf}
 
 flat_map-none : {X Y : Type 0} (f : X → List Y) → ((x : X) → f x ≡ []) → (xs : List X) → flat_map f xs ≡ []

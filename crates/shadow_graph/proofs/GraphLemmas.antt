@@ -21,11 +21,13 @@ use Rattle.history_model.proofs.OneMoreBulletin.{known-rows, knows-notice, lost-
 use Rattle.history_model.proofs.RisingActors.{among-decides}
 use Rattle.membership.specs.Noted.{links_of}
 use Rattle.shadow_table.specs.Shadows.{is_named}
-use Rattle.shadow_graph.specs.Graph.{Graph, NamesRows, lost_in}
-use Rattle.shadow_graph.specs.Losing.{LosesNodes}
-use Rattle.shadow_graph.specs.Stands.{CountsFold, IsGraphOf, LogsFold}
+use Rattle.shadow_rows.specs.Rows.{NamesRows}
+use Rattle.shadow_graph.specs.Graph.{Graph, lost_in}
+use Rattle.shadow_rows.specs.Losing.{LosesNodes}
+use Rattle.shadow_rows.specs.Folded.{CountsFold, LogsFold}
+use Rattle.shadow_graph.specs.Stands.{IsGraphOf}
 use Rattle.shadow_graph.specs.Taken.{TakesIn}
-use Rattle.shadow_graph.proofs.StandsLemmas.{counts-added, logs-added}
+use Rattle.shadow_rows.proofs.StandsLemmas.{counts-added, logs-added}
 
 -- the lost nodes of the graph are those of the fold
 pub lost-same : (cl : Cluster) (f : Fold) (g : Graph) → IsGraphOf cl f g → lost_in g ≡ lost_of cl f

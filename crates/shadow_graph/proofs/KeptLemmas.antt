@@ -23,9 +23,9 @@ use Rattle.shadow_table.specs.declared.table.Shadow.{Shadow}
 use Rattle.undo_log.specs.Noted.{noted_count}
 use Rattle.undo_log.specs.Told.{admitted_from, told_by}
 use Rattle.undo_log.specs.declared.corrections.Correction.{Correction}
-use Rattle.shadow_graph.specs.Graph.{AddsLog, AddsRows, AreSmall, IsLogCovered}
+use Rattle.shadow_rows.specs.Rows.{AddsLog, AddsRows, AreSmall, IsLogCovered}
 use Rattle.shadow_graph.specs.Kept.{AreWithin, IsKept, lost_count}
-use Rattle.shadow_graph.specs.Tabled.{AreTabled}
+use Rattle.shadow_rows.specs.Tabled.{AreTabled}
 
 -- what a bulletin's rows count is below 2^32
 pub record RowsFit (node : ℕ) (counts : Bool) (own link : Ledger) (b : Bulletin) : Type 0 where

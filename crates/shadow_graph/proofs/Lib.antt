@@ -1,13 +1,3 @@
-pub mod PairLemmas
-pub mod GrowLemmas
-pub mod NamedLemmas
-pub mod StandsLemmas
-pub mod FitLemmas
-pub mod AddLemmas
-pub mod LogLemmas
-pub mod AddedLemmas
-pub mod SettleLemmas
-pub mod LosingLemmas
 pub mod GraphLemmas
 pub mod KeptLemmas
 pub mod FoldLemmas

@@ -32,7 +32,7 @@ use Rattle.shadow_graph.proofs.PlacedLemmas.{among-from_map, among-map, distinct
 use Rattle.shadow_graph.proofs.SeenLemmas.{none-passes}
 use Rattle.shadow_graph.specs.Graph.{Graph, lost_in}
 use Rattle.shadow_graph.specs.Owners.{AreOwners, owners_at, owns}
-use Rattle.shadow_graph.specs.Pairs.{edge_between, has_pair}
+use Rattle.shadow_rows.specs.Pairs.{edge_between, has_pair}
 use Rattle.shadow_graph.specs.Places.{ArePlaced, actor_of, owners_of}
 use Rattle.shadow_graph.specs.Seen.{is_dropped, seen_edge}
 use Rattle.shadow_graph.specs.Stands.{IsGraphOf}

@@ -16,13 +16,13 @@ use Rattle.edge_table.specs.Table.{Edges, edge_at, edges_from, edges_to, no_edge
 use Rattle.edge_table.specs.declared.table.Edge.{Edge}
 use Rattle.shadow_table.proofs.KeyedLemmas.{place-within}
 use Rattle.shadow_table.specs.Shadows.{Shadows, blank, is_named, place_in, shadow_at}
-use Rattle.shadow_graph.proofs.PairLemmas.{same_pair-decides}
+use Rattle.shadow_rows.proofs.PairLemmas.{same_pair-decides}
 use Rattle.shadow_graph.proofs.SeenLemmas.{none-passes, past-end, unnamed-blank}
 use Rattle.shadow_graph.specs.Graph.{Graph}
-use Rattle.shadow_graph.specs.Pairs.{edge_between, has_pair}
+use Rattle.shadow_rows.specs.Pairs.{edge_between, has_pair}
 use Rattle.shadow_graph.specs.Places.{ArePlaced, actor_of, owners_of, targets_of}
 use Rattle.shadow_graph.specs.Seen.{is_dropped, seen_edge}
-use Rattle.shadow_graph.specs.Tabled.{AreTabled, no_actor, pair_at}
+use Rattle.shadow_rows.specs.Tabled.{AreTabled, no_actor, pair_at}
 
 -- ---- members of lists
 

@@ -25,12 +25,12 @@ use Rattle.shadow_graph.proofs.GraphLemmas.{lost-same}
 use Rattle.shadow_graph.proofs.OwnersLemmas.{owns-value}
 use Rattle.shadow_graph.specs.Graph.{Graph, lost_in}
 use Rattle.shadow_graph.specs.Owners.{AreOwners, owns}
-use Rattle.shadow_graph.specs.Pairs.{edge_between}
+use Rattle.shadow_rows.specs.Pairs.{edge_between}
 use Rattle.shadow_graph.specs.Places.{ArePlaced, actor_of}
 use Rattle.shadow_graph.specs.Same.{AreSame, edge_value}
 use Rattle.shadow_graph.specs.Seen.{is_dropped, is_known}
 use Rattle.shadow_graph.specs.Stands.{IsGraphOf}
-use Rattle.shadow_graph.specs.Tabled.{no_actor}
+use Rattle.shadow_rows.specs.Tabled.{no_actor}
 
 -- ---- two graphs that stand for one fold
 

@@ -7,14 +7,14 @@ use Rattle.edge_table.specs.declared.table.Edge.{Edge}
 use Rattle.shadow_table.proofs.KeyedLemmas.{place-within}
 use Rattle.shadow_table.specs.Shadows.{blank, is_named, place_in}
 use Rattle.shadow_table.specs.declared.table.Shadow.{Shadow}
-use Rattle.shadow_graph.proofs.PairLemmas.{same_pair-decides}
+use Rattle.shadow_rows.proofs.PairLemmas.{same_pair-decides}
 use Rattle.shadow_graph.proofs.PlacedLemmas.{key-at, key-there}
 use Rattle.shadow_graph.specs.Graph.{Graph, lost_in}
-use Rattle.shadow_graph.specs.Pairs.{edge_between, has_pair}
+use Rattle.shadow_rows.specs.Pairs.{edge_between, has_pair}
 use Rattle.shadow_graph.specs.Places.{ArePlaced, actor_of}
 use Rattle.shadow_graph.specs.Same.{AgreeAlong, AgreeOn, AreSame, IsReadIn}
 use Rattle.shadow_graph.specs.Seen.{is_dropped, is_known, seen_edge, seen_shadow}
-use Rattle.shadow_graph.specs.Tabled.{no_actor, pair_at}
+use Rattle.shadow_rows.specs.Tabled.{no_actor, pair_at}
 
 -- ---- what was named in one graph, by places and by numbers
 

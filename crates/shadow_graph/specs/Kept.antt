@@ -9,9 +9,9 @@ use Rattle.membership.specs.Noted.{Noted, links_of}
 use Rattle.shadow_table.specs.Shadows.{Shadows, shadow_at}
 use Rattle.undo_log.specs.Told.{admitted_from, told_by}
 use Rattle.undo_log.specs.declared.corrections.Correction.{Correction}
-use Rattle.shadow_graph.specs.Graph.{IsLogCovered}
-use Rattle.shadow_graph.specs.Pairs.{edge_between}
-use Rattle.shadow_graph.specs.Tabled.{AreTabled}
+use Rattle.shadow_rows.specs.Rows.{IsLogCovered}
+use Rattle.shadow_rows.specs.Pairs.{edge_between}
+use Rattle.shadow_rows.specs.Tabled.{AreTabled}
 
 -- each bulletin counts something less than 2^32 times, and each node's corrections less than 2^56 times
 pub record AreWithin (folded lost : ℕ) (shadows : Shadows) (edges : Edges) (log : List (List Correction)) : Type 0 where

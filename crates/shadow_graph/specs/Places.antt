@@ -6,8 +6,8 @@ use Rattle.crgc_ids.specs.Members.{IsAmong}
 use Rattle.edge_table.specs.Table.{edge_at, edges_from, edges_to, no_edge}
 use Rattle.shadow_table.specs.Shadows.{blank, is_named, place_in, shadow_at}
 use Rattle.shadow_graph.specs.Graph.{Graph}
-use Rattle.shadow_graph.specs.Pairs.{edge_between, has_pair}
-use Rattle.shadow_graph.specs.Tabled.{no_actor}
+use Rattle.shadow_rows.specs.Pairs.{edge_between, has_pair}
+use Rattle.shadow_rows.specs.Tabled.{no_actor}
 
 -- the actor at a place
 abbrev pub actor_of : Graph → ℕ → Actor

@@ -2,7 +2,7 @@
 use Rattle.std.specs.Prelude.{◌≡◌, ◌-ℤ◌, ℤ, pos, true}
 use Rattle.crgc_ids.specs.Actor.{Actor}
 use Rattle.shadow_graph.specs.Graph.{Graph, lost_in}
-use Rattle.shadow_graph.specs.Pairs.{has_pair}
+use Rattle.shadow_rows.specs.Pairs.{has_pair}
 use Rattle.shadow_graph.specs.Seen.{is_known, seen_edge, seen_shadow}
 use Rattle.shadow_table.specs.Shadows.{is_named}
 

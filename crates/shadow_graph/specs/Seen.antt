@@ -6,7 +6,7 @@ use Rattle.edge_table.specs.declared.table.Edge.{Edge}
 use Rattle.shadow_table.specs.Shadows.{ChangesShadow, as_dropped, blank, is_named, shadow_at}
 use Rattle.shadow_table.specs.declared.table.Shadow.{Shadow}
 use Rattle.shadow_graph.specs.Graph.{Graph}
-use Rattle.shadow_graph.specs.Pairs.{edge_between}
+use Rattle.shadow_rows.specs.Pairs.{edge_between}
 
 -- whether the actor was dropped
 abbrev pub is_dropped : Graph → Actor → Bool

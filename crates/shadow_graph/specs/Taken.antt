@@ -13,8 +13,9 @@ use Rattle.history_model.specs.Streams.{Notice}
 use Rattle.history_model.specs.Tells.{Tells, bulletin_ledger}
 use Rattle.membership.specs.Noted.{links_of}
 use Rattle.shadow_table.specs.Shadows.{shadow_at}
-use Rattle.shadow_graph.specs.Graph.{AddsLog, AddsRows, Graph, NamesRows, lost_in}
-use Rattle.shadow_graph.specs.Losing.{LosesNodes}
+use Rattle.shadow_rows.specs.Rows.{AddsLog, AddsRows, NamesRows}
+use Rattle.shadow_graph.specs.Graph.{Graph, lost_in}
+use Rattle.shadow_rows.specs.Losing.{LosesNodes}
 use Rattle.shadow_graph.specs.Stands.{IsGraphOf}
 
 -- the rows are counted under the old lost nodes and noted in the log, their actors are named, and the cut counts the bulletin

@@ -2,7 +2,7 @@
 ghost use Rattle.std.specs.Prelude.{◌≡◌};
 ghost use Rattle.edge_table.specs.Table.{no_edge};
 ghost use Rattle.shadow_table.specs.Shadows.{blank, shadow_at};
-ghost use Rattle.shadow_graph.specs.Pairs.{edge_between};
+ghost use Rattle.shadow_rows.specs.Pairs.{edge_between};
 
 use crgc_ids::ActorId;
 use edge_table::{Edge, EdgeTable};

@@ -18,14 +18,12 @@ mod known;
 mod owners;
 mod same;
 
-use crate::add::add_delta;
 use crate::found::{blank, edge_between, no_edge, shadow_of};
-use crate::settle::settle_lost;
-use crate::windows::add_window;
 use crgc_ids::{ActorId, Cut, NoMemory, NodeId, NodeSet};
 use edge_table::{Edge, EdgeTable};
 use history_model::{Bulletin, Delta, Window};
 use membership::Finals;
+use shadow_rows::{add_delta, add_window, settle_lost};
 use shadow_table::{Shadow, ShadowTable};
 use std::alloc::Global;
 use std::marker::Model;

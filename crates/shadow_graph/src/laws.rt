@@ -1,43 +1,22 @@
 //! Laws of the definitions. Each function does nothing, and its contract is the law.
-ghost use Rattle.std.specs.Prelude.{◌≡◌, ◌<◌, ◌≤◌, ◌↔◌, ◌⊎◌, ◌∷◌, [], ℕ, Bool, List, count_by, length, not};
+ghost use Rattle.std.specs.Prelude.{◌≡◌, ◌<◌, ◌≤◌, ◌↔◌, ◌⊎◌, ◌∷◌, [], ℕ, List, count_by, length};
 ghost use Rattle.history_model.specs.declared.records.Bulletin.{Bulletin};
 ghost use Rattle.history_model.specs.Cluster.{Cluster};
 ghost use Rattle.history_model.specs.Folds.{Fold, links_into, lost_of};
 ghost use Rattle.crgc_ids.specs.Actor.{Actor};
 ghost use Rattle.crgc_ids.specs.Members.{IsAmong};
-ghost use Rattle.history_model.specs.MoreFolded.{IsLostToo, link_rows, own_rows, with_notice};
+ghost use Rattle.history_model.specs.MoreFolded.{with_notice};
 ghost use Rattle.history_model.specs.Streams.{Notice};
 ghost use Rattle.history_model.specs.Tells.{IsOrdered, Tells};
-ghost use Rattle.edge_table.specs.Table.{Edges};
-ghost use Rattle.shadow_table.specs.Shadows.{Shadows};
-ghost use Rattle.undo_log.specs.declared.corrections.Correction.{Correction};
-ghost use Rattle.shadow_graph.specs.Graph.{AddsLog, AddsRows, Graph, Settles, lost_in};
-ghost use Rattle.shadow_graph.specs.Losing.{LosesNodes};
+ghost use Rattle.shadow_graph.specs.Graph.{Graph, lost_in};
+ghost use Rattle.shadow_rows.specs.Losing.{LosesNodes};
 ghost use Rattle.shadow_graph.specs.Owners.{AreOwners};
 ghost use Rattle.shadow_graph.specs.Places.{ArePlaced};
 ghost use Rattle.shadow_graph.specs.Same.{AreSame};
 ghost use Rattle.shadow_graph.specs.Seen.{is_dropped, is_known};
 ghost use Rattle.shadow_graph.specs.Taken.{TakesIn};
 ghost use Rattle.membership.specs.Noted.{links_of};
-ghost use Rattle.shadow_graph.specs.Stands.{CountsFold, IsGraphOf, LogsFold};
-
-/// Counts that stand for a fold and take in the rows of a bulletin stand for the fold with the bulletin, for any nodes taken as
-/// lost; and so does the log.
-pub fn rows_add_a_bulletin()
-    ensures counts { (cl : Cluster) (lost : ℕ → Bool) (f : Fold) (o : ℕ) (b : Bulletin) (n : Notice) (s t : Shadows) (d e : Edges)
-        → o < cl.nodes → Tells o b n → CountsFold cl lost f s d → AddsRows o (not (lost o)) (own_rows b) (link_rows lost b) s t d e
-        → CountsFold cl lost (with_notice o n f) t e }
-    ensures log { (cl : Cluster) (f : Fold) (o : ℕ) (b : Bulletin) (n : Notice) (l m : List (List Correction)) → o < cl.nodes
-        → Tells o b n → LogsFold cl f l → AddsLog o b l m → LogsFold cl (with_notice o n f) m }
-{}
-
-/// Where one node more is lost, counts from which what it told is taken back, and in which what others admitted from it is put
-/// in, stand for the same fold.
-pub fn corrections_lose_a_node()
-    ensures { (cl : Cluster) (k : ℕ) (lost more : ℕ → Bool) (f : Fold) (l : List (List Correction)) (s t : Shadows) (d e : Edges)
-        → k < cl.nodes → IsLostToo k lost more → LogsFold cl f l → CountsFold cl lost f s d → Settles k l s t d e
-        → CountsFold cl more f t e }
-{}
+ghost use Rattle.shadow_graph.specs.Stands.{IsGraphOf};
 
 /// A graph that stands for a fold and takes in a bulletin that is no Final stands for the fold with it. With a Final it does
 /// once the link is noted and the newly lost nodes are settled.

@@ -1,10 +1,10 @@
 //! The edges of a shadow graph by the places of its actors.
 ghost use Rattle.std.specs.Prelude.{◌≡◌, ◌<◌, ◌≤◌, ◌-ℤ◌, if◌then◌else◌, pos, length, slice_index};
 ghost use Rattle.edge_table.specs.Table.{edge_at, no_edge};
-ghost use Rattle.shadow_graph.specs.Pairs.{edge_between};
+ghost use Rattle.shadow_rows.specs.Pairs.{edge_between};
 ghost use Rattle.shadow_graph.specs.Places.{actor_of, owners_of, targets_of};
 ghost use Rattle.shadow_graph.specs.Seen.{is_dropped, seen_edge};
-ghost use Rattle.shadow_graph.specs.Tabled.{pair_at};
+ghost use Rattle.shadow_rows.specs.Tabled.{pair_at};
 
 use super::ShadowGraph;
 use edge_table::Edge;

@@ -3,7 +3,7 @@ ghost use Rattle.std.specs.Prelude.{◌≡◌, ◌<◌, ℕ, length};
 ghost use Rattle.std.specs.Bool.{Decides};
 ghost use Rattle.shadow_graph.specs.Places.{ArePlaced, actor_of};
 ghost use Rattle.shadow_graph.specs.Same.{AgreeOn, AgreeAlong, AreSame, IsReadIn};
-ghost use Rattle.shadow_graph.specs.Tabled.{pair_at};
+ghost use Rattle.shadow_rows.specs.Tabled.{pair_at};
 
 use super::ShadowGraph;
 use crgc_ids::{ActorId, NodeSet};

@@ -4,7 +4,7 @@ use Rattle.edge_table.specs.Table.{edge_at, edges_from}
 use Rattle.edge_table.specs.declared.table.Edge.{Edge}
 use Rattle.shadow_graph.proofs.PlacedLemmas.{between-value, from-at}
 use Rattle.shadow_graph.specs.Graph.{Graph}
-use Rattle.shadow_graph.specs.Pairs.{edge_between}
+use Rattle.shadow_rows.specs.Pairs.{edge_between}
 use Rattle.shadow_graph.specs.Places.{actor_of, targets_of}
 use Rattle.shadow_graph.proofs.graph.ShadowGraph.edge_at.Goals as goal
 

@@ -2,7 +2,7 @@ use Rattle.std.proofs.Common.{◌≡◌, ◌<◌, ℕ, length, refl, subst, sym,
 use Rattle.std.proofs.lemmas.Bool.{cases_lt, false≢true}
 use Rattle.shadow_graph.specs.Graph.{Graph}
 use Rattle.shadow_graph.specs.Same.{AgreeAlong}
-use Rattle.shadow_graph.specs.Tabled.{pair_at}
+use Rattle.shadow_rows.specs.Tabled.{pair_at}
 use Rattle.shadow_graph.proofs.graph.ShadowGraph.edges_agree.Goals as goal
 
 pub returns-then-not-agrees_along : goal.returns-then-not-agrees_along

@@ -1,6 +1,6 @@
 use Rattle.std.proofs.Common.{◌<◌, ℕ}
 use Rattle.shadow_graph.specs.Same.{AgreeAlong}
-use Rattle.shadow_graph.specs.Tabled.{pair_at}
+use Rattle.shadow_rows.specs.Tabled.{pair_at}
 use Rattle.shadow_graph.proofs.graph.ShadowGraph.edges_agree.Given as goal
 
 abbrev pub invariant-loop-number : goal.invariant-loop-number

@@ -4,7 +4,7 @@ use Rattle.edge_table.specs.Table.{edge_at, edges_to, no_edge}
 use Rattle.edge_table.specs.declared.table.Edge.{Edge}
 use Rattle.shadow_graph.proofs.PlacedLemmas.{between-value, to-at}
 use Rattle.shadow_graph.specs.Graph.{Graph}
-use Rattle.shadow_graph.specs.Pairs.{edge_between}
+use Rattle.shadow_rows.specs.Pairs.{edge_between}
 use Rattle.shadow_graph.specs.Places.{actor_of, owners_of}
 use Rattle.shadow_graph.specs.Seen.{is_dropped}
 use Rattle.shadow_graph.proofs.graph.ShadowGraph.owner_at.Goals as goal

@@ -2,7 +2,8 @@ use Rattle.std.proofs.Common.{◌≡◌, ◌<◌, ◌∙◌, ap, arith, not, sub
 use Rattle.crgc_ids.specs.Nodes.{has_node}
 use Rattle.history_model.specs.declared.records.Bulletin.TheVariants as bulletins
 use Rattle.history_model.specs.Ledgers.{delta_ledger, no_rows}
-use Rattle.shadow_graph.specs.Graph.{AddsRows, Graph}
+use Rattle.shadow_rows.specs.Rows.{AddsRows}
+use Rattle.shadow_graph.specs.Graph.{Graph}
 use Rattle.shadow_graph.proofs.KeptLemmas.{delta-fits, has-tells, kept-added, log-small, small-kept}
 use Rattle.shadow_graph.proofs.graph.ShadowGraph.take_delta.Goals as goal
 

@@ -2,7 +2,8 @@ use Rattle.std.proofs.Common.{◌≡◌, ◌<◌, arith, cond, false, not, subst
 use Rattle.crgc_ids.specs.Nodes.{has_node}
 use Rattle.history_model.specs.declared.records.Bulletin.TheVariants as bulletins
 use Rattle.history_model.specs.Ledgers.{no_rows, window_ledger}
-use Rattle.shadow_graph.specs.Graph.{AddsRows, Graph}
+use Rattle.shadow_rows.specs.Rows.{AddsRows}
+use Rattle.shadow_graph.specs.Graph.{Graph}
 use Rattle.shadow_graph.proofs.KeptLemmas.{has-tells, kept-added, log-small, small-kept, window-fits}
 use Rattle.shadow_graph.proofs.graph.ShadowGraph.take_window.Goals as goal
 

@@ -1,5 +1,0 @@
-use Rattle.shadow_graph.proofs.StandsLemmas.{counts-moved}
-use Rattle.shadow_graph.proofs.laws.corrections_lose_a_node.Goals as goal
-
-pub returns : goal.returns
-returns c = counts-moved

@@ -1,0 +1,10 @@
+pub mod PairLemmas
+pub mod GrowLemmas
+pub mod NamedLemmas
+pub mod StandsLemmas
+pub mod FitLemmas
+pub mod AddLemmas
+pub mod LogLemmas
+pub mod AddedLemmas
+pub mod SettleLemmas
+pub mod LosingLemmas

@@ -1,0 +1,81 @@
+use Rattle.std.proofs.Common.{◌≡◌, cond, List, [], subst, sym, ap, ◌∙◌, true, arith}
+use Rattle.std.specs.List.{AllByRecursion}
+use Rattle.crgc_ids.specs.Actor.{Actor}
+use Rattle.history_model.specs.Ledgers.{window_ledger, ledger_names, no_rows}
+use Rattle.shadow_table.specs.Shadows.{Shadows, is_named}
+use Rattle.undo_log.specs.declared.corrections.Side.TheVariants as sides
+use Rattle.shadow_rows.specs.Rows.{NamesRows}
+use Rattle.shadow_rows.specs.Tabled.{ArePairs}
+use Rattle.shadow_rows.proofs.AddedLemmas.{adds-grown, covered-restored, small-grown, tabled-counted, tabled-restored}
+use Rattle.shadow_rows.proofs.LogLemmas.{covered-added, edges-cut, notes-final, notes-window, pairs-cut, shadows-cut}
+use Rattle.shadow_rows.proofs.NamedLemmas.{sent-named}
+use Rattle.shadow_rows.proofs.windows.add_window.Goals as goal
+
+pub count_window-requires-clause-messages : goal.count_window-requires-clause-messages
+count_window-requires-clause-messages c =
+    let d = c.args.window.now in
+    sent-named c.args.shadows.now.names c.prepare_window.new.shadows.names [] d.messages d.carried [] c.in-Ok.ensures.named
+
+pub count_window-requires-clause-small : goal.count_window-requires-clause-small
+count_window-requires-clause-small c =
+    small-grown c.args.shadows.now c.prepare_window.new.shadows c.args.edges.now c.prepare_window.new.edges c.prepare_window.ensures.shadows c.prepare_window.ensures.edges c.requires.small
+
+pub returns-in-Ok-clause-adds : goal.returns-in-Ok-clause-adds
+returns-in-Ok-clause-adds c = λ told.
+    let w = c.args.window.now in
+    adds-grown w.at told no_rows (cond c.args.counts (window_ledger w) no_rows) c.args.shadows.now c.prepare_window.new.shadows c.count_window.new.shadows c.args.edges.now c.prepare_window.new.edges c.count_window.new.edges c.prepare_window.ensures.shadows c.prepare_window.ensures.edges (c.count_window.ensures.adds told)
+
+pub returns-in-Ok-clause-noted : goal.returns-in-Ok-clause-noted
+returns-in-Ok-clause-noted c = notes-window c.args.window.now c.args.log.now c.prepare_window.new.log c.in-Ok.ensures.noted
+
+pub returns-in-Ok-clause-noted_final : goal.returns-in-Ok-clause-noted_final
+returns-in-Ok-clause-noted_final c = notes-final c.args.window.now c.args.log.now c.prepare_window.new.log c.in-Ok.ensures.noted
+
+pub returns-in-Ok-clause-named : goal.returns-in-Ok-clause-named
+returns-in-Ok-clause-named c =
+    subst (λ (ns : List Actor). NamesRows c.args.shadows.now.names ns (ledger_names (window_ledger c.args.window.now))) (sym c.count_window.ensures.names) c.in-Ok.ensures.named
+
+pub returns-in-Ok-clause-covered : goal.returns-in-Ok-clause-covered
+returns-in-Ok-clause-covered c =
+    let d = c.args.window.now in
+    let grown = c.prepare_window.ensures.shadows in
+    let more = c.prepare_window.ensures.edges in
+    let names = c.count_window.ensures.names in
+    let pairs = c.count_window.ensures.ends.pairs in
+    let sent = sent-named c.args.shadows.now.names c.prepare_window.new.shadows.names [] d.messages d.carried [] c.in-Ok.ensures.named in
+    covered-added c.args.shadows.now c.count_window.new.shadows c.args.edges.now c.count_window.new.edges c.args.log.now c.prepare_window.new.log d.from sides.Admitted d.messages d.carried grown.more more.more
+    (names ∙ grown.names) (pairs ∙ more.pairs)
+    (subst (λ (ns : List Actor). AllByRecursion (λ r. is_named ns r.actor ≡ true) d.messages) (sym names) sent)
+    (subst (λ (ps : List (Actor × Actor)). ArePairs ps d.carried) (sym pairs) c.in-Ok.ensures.carried)
+    c.in-Ok.ensures.noted c.requires.covered
+
+pub returns-in-Ok-clause-tabled : goal.returns-in-Ok-clause-tabled
+returns-in-Ok-clause-tabled c =
+    tabled-counted c.prepare_window.new.shadows.names c.count_window.new.shadows.names c.prepare_window.new.edges c.count_window.new.edges c.count_window.ensures.names c.count_window.ensures.ends c.in-Ok.ensures.tabled
+
+pub returns-in-Err-clause-shadows : goal.returns-in-Err-clause-shadows
+returns-in-Err-clause-shadows c =
+    c.cut_back.ensures.shadows ∙ shadows-cut c.args.shadows.now c.prepare_window.new.shadows c.place_count-places.result c.prepare_window.ensures.shadows c.place_count-places.ensures.value c.place_count-places.ensures.shadows
+
+pub returns-in-Err-clause-pairs : goal.returns-in-Err-clause-pairs
+returns-in-Err-clause-pairs c =
+    c.cut_back.ensures.pairs ∙ pairs-cut c.args.edges.now c.prepare_window.new.edges c.edge_count-count.result c.prepare_window.ensures.edges c.edge_count-count.ensures.value c.edge_count-count.ensures.long
+
+pub returns-in-Err-clause-edges : goal.returns-in-Err-clause-edges
+returns-in-Err-clause-edges c =
+    c.cut_back.ensures.edges ∙ edges-cut c.args.edges.now c.prepare_window.new.edges c.edge_count-count.result c.prepare_window.ensures.edges c.edge_count-count.ensures.value
+
+pub returns-in-Err-clause-tabled : goal.returns-in-Err-clause-tabled
+returns-in-Err-clause-tabled c =
+    let shadows = c.cut_back.ensures.shadows ∙ shadows-cut c.args.shadows.now c.prepare_window.new.shadows c.place_count-places.result c.prepare_window.ensures.shadows c.place_count-places.ensures.value c.place_count-places.ensures.shadows in
+    let pairs = c.cut_back.ensures.pairs ∙ pairs-cut c.args.edges.now c.prepare_window.new.edges c.edge_count-count.result c.prepare_window.ensures.edges c.edge_count-count.ensures.value c.edge_count-count.ensures.long in
+    let edges = c.cut_back.ensures.edges ∙ edges-cut c.args.edges.now c.prepare_window.new.edges c.edge_count-count.result c.prepare_window.ensures.edges c.edge_count-count.ensures.value in
+    let grown = c.prepare_window.ensures.places in
+    let same = c.cut_back.ensures.places in
+    tabled-restored c.args.shadows.now.names c.cut_back.new.shadows.names c.args.edges.now c.cut_back.new.edges (ap (λ (t : Shadows). t.names) shadows) pairs edges (omega (arith, grown, same)) c.requires.tabled
+
+pub returns-in-Err-clause-covered : goal.returns-in-Err-clause-covered
+returns-in-Err-clause-covered c =
+    let shadows = c.cut_back.ensures.shadows ∙ shadows-cut c.args.shadows.now c.prepare_window.new.shadows c.place_count-places.result c.prepare_window.ensures.shadows c.place_count-places.ensures.value c.place_count-places.ensures.shadows in
+    let pairs = c.cut_back.ensures.pairs ∙ pairs-cut c.args.edges.now c.prepare_window.new.edges c.edge_count-count.result c.prepare_window.ensures.edges c.edge_count-count.ensures.value c.edge_count-count.ensures.long in
+    covered-restored c.args.shadows.now c.cut_back.new.shadows c.args.edges.now c.cut_back.new.edges c.args.log.now c.prepare_window.new.log shadows pairs c.in-Err.ensures.log c.requires.covered

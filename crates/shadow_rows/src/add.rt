@@ -1,0 +1,113 @@
+//! Bulletins whose rows the shadows, the edges and the log take in.
+ghost use Rattle.std.specs.Prelude.{◌≡◌, ◌≤◌, true, Bool, Option, OnErr, OnOk};
+ghost use Rattle.std.specs.List.{AllByRecursion};
+ghost use Rattle.crgc_ids.specs.Actor.{Actor};
+ghost use Rattle.history_model.specs.declared.records.Bulletin.TheVariants as bulletins;
+ghost use Rattle.history_model.specs.Ledgers.{IsInOrder, delta_ledger, ledger_names, no_rows};
+ghost use Rattle.delta_graph.specs.Sums.{CountsFit};
+ghost use Rattle.shadow_table.specs.Shadows.{ExtendsShadows, is_named};
+ghost use Rattle.undo_log.specs.Told.{Notes, told_by};
+ghost use Rattle.undo_log.specs.declared.corrections.Side.TheVariants as sides;
+ghost use Rattle.shadow_rows.specs.Rows.{AddsLog, AddsRows, AreSmall, IsLogCovered, NamesRows};
+ghost use Rattle.shadow_rows.specs.Pairs.{KeepsEnds};
+ghost use Rattle.shadow_rows.specs.Tabled.{ArePairs, AreTabled, ExtendsEdges};
+
+use crate::count::count_told;
+use crate::edges::release_all;
+use crate::grow::{cut_back, grow};
+use crgc_ids::NoMemory;
+use edge_table::EdgeTable;
+use history_model::Delta;
+use shadow_table::ShadowTable;
+use std::alloc::Global;
+use undo_log::UndoLog;
+
+/// The actors and pairs of the Delta are there, and the log has its sends and its created pairs. After `NoMemory` some of the
+/// actors and pairs may be there.
+fn prepare_delta(
+    alloc: Global,
+    shadows: &mut ShadowTable,
+    edges: &mut EdgeTable,
+    log: &mut UndoLog,
+    delta: &Delta,
+) -> Result<(), NoMemory>
+    requires tabled { AreTabled shadows.old.names edges.old }
+    requires small { (owner : Option Actor) (target : Actor) → told_by log.old delta.now.node owner target ≤ 4611686018427387904 }
+    ensures named { OnOk result (NamesRows shadows.old.names shadows.new.names (ledger_names (delta_ledger delta.now))) }
+    ensures fits { OnOk result (CountsFit (delta_ledger delta.now)) }
+    ensures created { OnOk result (ArePairs edges.new.pairs delta.now.created) }
+    ensures released { OnOk result (ArePairs edges.new.pairs delta.now.released) }
+    ensures tabled { OnOk result (AreTabled shadows.new.names edges.new) }
+    ensures noted { OnOk result (Notes log.old log.new delta.now.node sides.Told delta.now.sent delta.now.created) }
+    ensures shadows { ExtendsShadows shadows.old shadows.new }
+    ensures edges { ExtendsEdges edges.old edges.new }
+    ensures places { edges.old.places ≤ edges.new.places }
+    ensures log { OnErr result (log.new ≡ log.old) }
+    ensures ordered { IsInOrder (delta_ledger delta.now) }
+{
+    let states = delta.states.as_slice();
+    let sent = delta.sent.as_slice();
+    let created = delta.created.as_slice();
+    let released = delta.released.as_slice();
+    grow(alloc, shadows, edges, states, sent, created, released)?;
+    log.note_told(delta.node, &delta.sent, &delta.created)?;
+    Ok(())
+}
+
+/// The rows of the Delta are counted and noted, its sends and created pairs only where they count. After `NoMemory` all that
+/// is told of actors and pairs is as before. Time in proportion to n log n for n rows, on average and amortized.
+pub fn add_delta(
+    alloc: Global,
+    shadows: &mut ShadowTable,
+    edges: &mut EdgeTable,
+    log: &mut UndoLog,
+    delta: &Delta,
+    counts: bool,
+) -> Result<(), NoMemory>
+    requires tabled { AreTabled shadows.old.names edges.old }
+    requires covered { IsLogCovered shadows.old edges.old log.old }
+    requires small { AreSmall shadows.old edges.old }
+    requires log_small { (owner : Option Actor) (target : Actor) → told_by log.old delta.now.node owner target ≤ 4611686018427387904 }
+    ensures adds { OnOk result (AddsRows delta.now.node counts (delta_ledger delta.now) no_rows shadows.old shadows.new edges.old edges.new) }
+    ensures noted { OnOk result (AddsLog delta.now.node (bulletins.Delta delta.now) log.old log.new) }
+    ensures named { OnOk result (NamesRows shadows.old.names shadows.new.names (ledger_names (delta_ledger delta.now))) }
+    ensures fits { OnOk result (CountsFit (delta_ledger delta.now)) }
+    ensures covered { IsLogCovered shadows.new edges.new log.new }
+    ensures tabled { AreTabled shadows.new.names edges.new }
+    ensures shadows { OnErr result (shadows.new ≡ shadows.old) }
+    ensures pairs { OnErr result (edges.new.pairs ≡ edges.old.pairs) }
+    ensures edges { OnErr result (edges.new.edges ≡ edges.old.edges) }
+    ensures log { OnErr result (log.new ≡ log.old) }
+    ensures ordered { IsInOrder (delta_ledger delta.now) }
+{
+    let places = shadows.place_count();
+    let count = edges.edge_count();
+    match prepare_delta(alloc, shadows, edges, log, delta) {
+        Ok(()) => {
+            count_delta(shadows, edges, delta, counts);
+            Ok(())
+        }
+        Err(_) => {
+            cut_back(shadows, edges, places, count);
+            Err(NoMemory)
+        }
+    }
+}
+
+/// The rows of the Delta are counted, its sends and created pairs only where they count.
+fn count_delta(shadows: &mut ShadowTable, edges: &mut EdgeTable, delta: &Delta, counts: bool)
+    requires states { AllByRecursion (λ r. is_named shadows.old.names r.actor ≡ true) delta.now.states }
+    requires sent { AllByRecursion (λ r. is_named shadows.old.names r.actor ≡ true) delta.now.sent }
+    requires created { ArePairs edges.old.pairs delta.now.created }
+    requires released { ArePairs edges.old.pairs delta.now.released }
+    requires small { AreSmall shadows.old edges.old }
+    requires fits { CountsFit (delta_ledger delta.now) }
+    ensures adds { AddsRows delta.now.node counts (delta_ledger delta.now) no_rows shadows.old shadows.new edges.old edges.new }
+    ensures names { shadows.new.names ≡ shadows.old.names }
+    ensures ends { KeepsEnds edges.old edges.new }
+{
+    shadows.note_states(delta.node, delta.states.as_slice());
+    let (sent, created) = (delta.sent.as_slice(), delta.created.as_slice());
+    count_told(shadows, edges, sent, created, counts);
+    release_all(edges, delta.released.as_slice());
+}

@@ -1,0 +1,72 @@
+//! Edges by the pair of their owner and their target.
+ghost use Rattle.std.specs.Prelude.{◌≡◌, ◌+◌, ◌<◌, ◌^◌, true, length};
+ghost use Rattle.std.specs.List.{AllByRecursion, position_or_len};
+ghost use Rattle.crgc_ids.specs.Actor.{Actor};
+ghost use Rattle.history_model.specs.Ledgers.{pair_total};
+ghost use Rattle.edge_table.specs.Table.{same_pair};
+ghost use Rattle.shadow_rows.specs.Pairs.{ChangesEdge, ChangesEdges, edge_between, has_pair, with_given, with_released, without_given};
+
+use crgc_ids::{ActorId, PairCount};
+use edge_table::EdgeTable;
+
+/// The number of an edge that is there.
+fn number(edges: &EdgeTable, owner: ActorId, target: ActorId) -> u32
+    requires { has_pair edges.now.pairs owner target ≡ true }
+    ensures number { result ≡ position_or_len (same_pair (owner, target)) edges.now.pairs }
+    ensures within { result < length edges.now.edges }
+    ensures long { length edges.now.edges ≡ length edges.now.pairs }
+{
+    edges.number_of(owner, target).unwrap()
+}
+
+/// So many more references to the target are given to the owner.
+pub fn give(edges: &mut EdgeTable, owner: ActorId, target: ActorId, count: u64)
+    requires there { has_pair edges.old.pairs owner target ≡ true }
+    requires fits { (edge_between edges.old owner target).given + count < 2 ^ 64 }
+    ensures { ChangesEdge edges.old edges.new owner target (with_given count) }
+{
+    let number = number(edges, owner, target);
+    edges.give(number, count);
+}
+
+/// So many of the references to the target that the owner was given are taken back, or all where there are fewer.
+pub fn take_back(edges: &mut EdgeTable, owner: ActorId, target: ActorId, count: u64)
+    requires { has_pair edges.old.pairs owner target ≡ true }
+    ensures { ChangesEdge edges.old edges.new owner target (without_given count) }
+{
+    let number = number(edges, owner, target);
+    let given = edges.edge(number).given;
+    edges.take_back(number, count.min(given));
+}
+
+/// So many more references to the target are released by the owner.
+pub fn release(edges: &mut EdgeTable, owner: ActorId, target: ActorId, count: u64)
+    requires there { has_pair edges.old.pairs owner target ≡ true }
+    requires fits { (edge_between edges.old owner target).released + count < 2 ^ 64 }
+    ensures { ChangesEdge edges.old edges.new owner target (with_released count) }
+{
+    let number = number(edges, owner, target);
+    edges.release(number, count);
+}
+
+/// The references that the rows count are given. Linear time in the number of rows, on average.
+pub fn give_all(edges: &mut EdgeTable, rows: &[PairCount])
+    requires there { AllByRecursion (λ r. has_pair edges.old.pairs r.owner r.target ≡ true) rows.now }
+    requires fits { (b a : Actor) → (edge_between edges.old b a).given + pair_total b a rows.now < 2 ^ 64 }
+    ensures { ChangesEdges edges.old edges.new (λ b a e. with_given (pair_total b a rows.now) e) }
+{
+    for row in rows {
+        give(edges, row.owner, row.target, u64::from(row.count));
+    }
+}
+
+/// The references that the rows count are released. Linear time in the number of rows, on average.
+pub fn release_all(edges: &mut EdgeTable, rows: &[PairCount])
+    requires there { AllByRecursion (λ r. has_pair edges.old.pairs r.owner r.target ≡ true) rows.now }
+    requires fits { (b a : Actor) → (edge_between edges.old b a).released + pair_total b a rows.now < 2 ^ 64 }
+    ensures { ChangesEdges edges.old edges.new (λ b a e. with_released (pair_total b a rows.now) e) }
+{
+    for row in rows {
+        release(edges, row.owner, row.target, u64::from(row.count));
+    }
+}

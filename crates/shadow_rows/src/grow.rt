@@ -1,0 +1,145 @@
+//! Edges that are added, with nothing given and released.
+ghost use Rattle.std.specs.Prelude.{◌≡◌, ◌≤◌, ◌||◌, true, OnErr, OnOk, length, take};
+ghost use Rattle.edge_table.specs.Table.{Edges};
+ghost use Rattle.crgc_ids.specs.Actor.{Actor, same_actor};
+ghost use Rattle.std.specs.List.{list_any};
+ghost use Rattle.shadow_table.specs.Shadows.{ExtendsShadows, first_of, is_named};
+ghost use Rattle.shadow_rows.specs.Pairs.{has_pair};
+ghost use Rattle.shadow_rows.specs.Tabled.{AreCounts, ArePairs, ArePairsNamed, AreTabled, ExtendsEdges, row_names};
+
+use crate::names::sorted_names;
+use crgc_ids::{ActorCount, ActorId, NoMemory, PairCount};
+use edge_table::EdgeTable;
+use history_model::StateRow;
+use shadow_table::ShadowTable;
+use std::alloc::Global;
+
+/// The edge between the actors is there. After `NoMemory` all is as before. Constant time on average, amortized.
+fn add_pair(
+    edges: &mut EdgeTable,
+    shadows: &ShadowTable,
+    owner: ActorId,
+    target: ActorId,
+) -> Result<(), NoMemory>
+    requires tabled { AreTabled shadows.now.names edges.old }
+    requires owner { is_named shadows.now.names owner ≡ true }
+    requires target { is_named shadows.now.names target ≡ true }
+    ensures ok { OnOk result (has_pair edges.new.pairs owner target ≡ true) }
+    ensures tabled { AreTabled shadows.now.names edges.new }
+    ensures extends { ExtendsEdges edges.old edges.new }
+    ensures places { edges.new.places ≡ edges.old.places }
+{
+    if edges.number_of(owner, target).is_some() {
+        return Ok(());
+    }
+    let from = shadows.place_of(owner).unwrap();
+    let to = shadows.place_of(target).unwrap();
+    match edges.add(owner, target, from, to) {
+        Ok(_) => Ok(()),
+        Err(_) => Err(NoMemory),
+    }
+}
+
+/// The edges between the actors of the rows are there. After `NoMemory` some of them may be. Linear time in the number of
+/// rows, on average.
+pub fn add_pairs(
+    edges: &mut EdgeTable,
+    shadows: &ShadowTable,
+    rows: &[PairCount],
+) -> Result<(), NoMemory>
+    requires tabled { AreTabled shadows.now.names edges.old }
+    requires named { ArePairsNamed shadows.now.names rows.now }
+    ensures ok { OnOk result (ArePairs edges.new.pairs rows.now) }
+    ensures tabled { AreTabled shadows.now.names edges.new }
+    ensures extends { ExtendsEdges edges.old edges.new }
+    ensures places { edges.new.places ≡ edges.old.places }
+{
+    for row in rows {
+        add_pair(edges, shadows, row.owner, row.target)?;
+    }
+    Ok(())
+}
+
+/// There are at least so many places. After `NoMemory` there may be some more than before.
+pub fn add_places(edges: &mut EdgeTable, places: u32) -> Result<(), NoMemory>
+    ensures ok { OnOk result (places ≤ edges.new.places) }
+    ensures grown { edges.old.places ≤ edges.new.places }
+    ensures pairs { edges.new.pairs ≡ edges.old.pairs }
+    ensures edges { edges.new.edges ≡ edges.old.edges }
+{
+    for _ in edges.place_count()..places {
+        edges.add_place()?;
+    }
+    Ok(())
+}
+
+/// Only the first so many edges stay.
+pub fn cut_back_edges(edges: &mut EdgeTable, count: u32)
+    ensures pairs { edges.new.pairs ≡ take count edges.old.pairs }
+    ensures edges { edges.new.edges ≡ take count edges.old.edges }
+    ensures places { edges.new.places ≡ edges.old.places }
+{
+    while edges.edge_count() > count {
+        edges.remove_last_edge();
+    }
+}
+
+/// The actors that the rows name are named, in their order, each with a place among the edges. After `NoMemory` some of them
+/// may be.
+fn add_names(
+    shadows: &mut ShadowTable,
+    edges: &mut EdgeTable,
+    names: &[ActorId],
+) -> Result<(), NoMemory>
+    requires tabled { AreTabled shadows.old.names edges.old }
+    ensures ok { OnOk result ((a : Actor) → is_named shadows.new.names a ≡ (is_named shadows.old.names a || list_any (same_actor a) names.now)) }
+    ensures tabled { OnOk result (AreTabled shadows.new.names edges.new) }
+    ensures shadows { ExtendsShadows shadows.old shadows.new }
+    ensures places { edges.old.places ≤ edges.new.places }
+    ensures pairs { edges.new.pairs ≡ edges.old.pairs }
+    ensures edges { edges.new.edges ≡ edges.old.edges }
+{
+    shadows.name_all(names)?;
+    add_places(edges, shadows.place_count())?;
+    Ok(())
+}
+
+/// The actors that the rows name are named, rising, and the pairs of the rows are there. After `NoMemory` some of them may
+/// be. Time in proportion to n log n for n rows.
+pub fn grow(
+    alloc: Global,
+    shadows: &mut ShadowTable,
+    edges: &mut EdgeTable,
+    states: &[StateRow],
+    sent: &[ActorCount],
+    created: &[PairCount],
+    released: &[PairCount],
+) -> Result<(), NoMemory>
+    requires tabled { AreTabled shadows.old.names edges.old }
+    ensures named { OnOk result ((a : Actor) → is_named shadows.new.names a
+        ≡ (is_named shadows.old.names a || list_any (same_actor a) (row_names states.now sent.now created.now released.now))) }
+    ensures fits { OnOk result (AreCounts states.now sent.now created.now released.now) }
+    ensures created { OnOk result (ArePairs edges.new.pairs created.now) }
+    ensures released { OnOk result (ArePairs edges.new.pairs released.now) }
+    ensures tabled { OnOk result (AreTabled shadows.new.names edges.new) }
+    ensures shadows { ExtendsShadows shadows.old shadows.new }
+    ensures edges { ExtendsEdges edges.old edges.new }
+    ensures places { edges.old.places ≤ edges.new.places }
+{
+    let names = sorted_names(alloc, states, sent, created, released)?;
+    add_names(shadows, edges, names.as_slice())?;
+    add_pairs(edges, shadows, created)?;
+    add_pairs(edges, shadows, released)?;
+    Ok(())
+}
+
+/// Only the first so many places and edges stay.
+pub fn cut_back(shadows: &mut ShadowTable, edges: &mut EdgeTable, places: u32, count: u32)
+    ensures shadows { shadows.new ≡ first_of places shadows.old }
+    ensures pairs { edges.new.pairs ≡ take count edges.old.pairs }
+    ensures edges { edges.new.edges ≡ take count edges.old.edges }
+    ensures places { edges.new.places ≡ edges.old.places }
+{
+    shadows.cut_back(places);
+    cut_back_edges(edges, count);
+}

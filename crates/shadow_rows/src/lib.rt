@@ -1,0 +1,15 @@
+//! The rows of bulletins, counted in shadows and edges and noted in the log, and the corrections where nodes are lost.
+#![tactic(auto)]
+
+mod add;
+mod count;
+mod edges;
+mod grow;
+pub mod laws;
+mod names;
+mod settle;
+mod windows;
+
+pub use add::add_delta;
+pub use settle::settle_lost;
+pub use windows::add_window;

@@ -1,0 +1,109 @@
+//! Windows and Finals whose rows the shadows, the edges and the log take in.
+ghost use Rattle.std.specs.Prelude.{◌≡◌, ◌≤◌, if◌then◌else◌, true, Bool, Option, OnErr, OnOk};
+ghost use Rattle.std.specs.List.{AllByRecursion};
+ghost use Rattle.crgc_ids.specs.Actor.{Actor};
+ghost use Rattle.history_model.specs.declared.records.Bulletin.TheVariants as bulletins;
+ghost use Rattle.history_model.specs.Ledgers.{IsInOrder, ledger_names, no_rows, window_ledger};
+ghost use Rattle.delta_graph.specs.Sums.{CountsFit};
+ghost use Rattle.shadow_table.specs.Shadows.{ExtendsShadows, is_named};
+ghost use Rattle.undo_log.specs.Told.{Notes, admitted_from};
+ghost use Rattle.undo_log.specs.declared.corrections.Side.TheVariants as sides;
+ghost use Rattle.shadow_rows.specs.Rows.{AddsLog, AddsRows, AreSmall, IsLogCovered, NamesRows};
+ghost use Rattle.shadow_rows.specs.Pairs.{KeepsEnds};
+ghost use Rattle.shadow_rows.specs.Tabled.{ArePairs, AreTabled, ExtendsEdges};
+
+use crate::count::count_admitted;
+use crate::grow::{cut_back, grow};
+use crgc_ids::NoMemory;
+use edge_table::EdgeTable;
+use history_model::Window;
+use shadow_table::ShadowTable;
+use std::alloc::Global;
+use undo_log::UndoLog;
+
+/// The actors and pairs of the window are there, and the log has its messages and its carried pairs. After `NoMemory` some of
+/// the actors and pairs may be there.
+fn prepare_window(
+    alloc: Global,
+    shadows: &mut ShadowTable,
+    edges: &mut EdgeTable,
+    log: &mut UndoLog,
+    window: &Window,
+) -> Result<(), NoMemory>
+    requires tabled { AreTabled shadows.old.names edges.old }
+    requires small { (owner : Option Actor) (target : Actor) → admitted_from log.old window.now.from owner target ≤ 4611686018427387904 }
+    ensures named { OnOk result (NamesRows shadows.old.names shadows.new.names (ledger_names (window_ledger window.now))) }
+    ensures fits { OnOk result (CountsFit (window_ledger window.now)) }
+    ensures carried { OnOk result (ArePairs edges.new.pairs window.now.carried) }
+    ensures tabled { OnOk result (AreTabled shadows.new.names edges.new) }
+    ensures noted { OnOk result (Notes log.old log.new window.now.from sides.Admitted window.now.messages window.now.carried) }
+    ensures shadows { ExtendsShadows shadows.old shadows.new }
+    ensures edges { ExtendsEdges edges.old edges.new }
+    ensures places { edges.old.places ≤ edges.new.places }
+    ensures log { OnErr result (log.new ≡ log.old) }
+    ensures ordered { IsInOrder (window_ledger window.now) }
+{
+    let messages = window.messages.as_slice();
+    let carried = window.carried.as_slice();
+    grow(alloc, shadows, edges, &[], messages, carried, &[])?;
+    log.note_admitted(window.from, &window.messages, &window.carried)?;
+    Ok(())
+}
+
+/// The rows of the window are counted and noted; its messages and carried pairs count where `counts` says so, which is where
+/// the node from which they were admitted is lost. After `NoMemory` all that is told of actors and pairs is as before. Time in
+/// proportion to n log n for n rows, on average and amortized.
+pub fn add_window(
+    alloc: Global,
+    shadows: &mut ShadowTable,
+    edges: &mut EdgeTable,
+    log: &mut UndoLog,
+    window: &Window,
+    counts: bool,
+) -> Result<(), NoMemory>
+    requires tabled { AreTabled shadows.old.names edges.old }
+    requires covered { IsLogCovered shadows.old edges.old log.old }
+    requires small { AreSmall shadows.old edges.old }
+    requires log_small { (owner : Option Actor) (target : Actor) → admitted_from log.old window.now.from owner target ≤ 4611686018427387904 }
+    ensures adds { OnOk result ((told : Bool) → AddsRows window.now.at told no_rows (if counts then window_ledger window.now else no_rows)
+        shadows.old shadows.new edges.old edges.new) }
+    ensures noted { OnOk result (AddsLog window.now.at (bulletins.Window window.now) log.old log.new) }
+    ensures noted_final { OnOk result (AddsLog window.now.at (bulletins.Final window.now) log.old log.new) }
+    ensures named { OnOk result (NamesRows shadows.old.names shadows.new.names (ledger_names (window_ledger window.now))) }
+    ensures fits { OnOk result (CountsFit (window_ledger window.now)) }
+    ensures covered { IsLogCovered shadows.new edges.new log.new }
+    ensures tabled { AreTabled shadows.new.names edges.new }
+    ensures shadows { OnErr result (shadows.new ≡ shadows.old) }
+    ensures pairs { OnErr result (edges.new.pairs ≡ edges.old.pairs) }
+    ensures edges { OnErr result (edges.new.edges ≡ edges.old.edges) }
+    ensures log { OnErr result (log.new ≡ log.old) }
+    ensures ordered { IsInOrder (window_ledger window.now) }
+{
+    let places = shadows.place_count();
+    let count = edges.edge_count();
+    match prepare_window(alloc, shadows, edges, log, window) {
+        Ok(()) => {
+            count_window(shadows, edges, window, counts);
+            Ok(())
+        }
+        Err(_) => {
+            cut_back(shadows, edges, places, count);
+            Err(NoMemory)
+        }
+    }
+}
+
+/// The rows of the window are counted where they count.
+fn count_window(shadows: &mut ShadowTable, edges: &mut EdgeTable, window: &Window, counts: bool)
+    requires messages { AllByRecursion (λ r. is_named shadows.old.names r.actor ≡ true) window.now.messages }
+    requires carried { ArePairs edges.old.pairs window.now.carried }
+    requires small { AreSmall shadows.old edges.old }
+    requires fits { CountsFit (window_ledger window.now) }
+    ensures adds { (told : Bool) → AddsRows window.now.at told no_rows (if counts then window_ledger window.now else no_rows)
+        shadows.old shadows.new edges.old edges.new }
+    ensures names { shadows.new.names ≡ shadows.old.names }
+    ensures ends { KeepsEnds edges.old edges.new }
+{
+    let (messages, carried) = (window.messages.as_slice(), window.carried.as_slice());
+    count_admitted(shadows, edges, messages, carried, counts);
+}
