@@ -1,0 +1,29 @@
+use Rattle.std.proofs.Common.{arith, rules, ◌∙◌}
+use Rattle.collector.specs.Refusals.{read_as}
+use Rattle.node_collectors.proofs.BulletinLemmas.{none-refused}
+use Rattle.node_collectors.proofs.StandLemmas.{hand-inside, hands, row-at}
+use Rattle.node_collectors.proofs.collectors.NodeCollectors.hand.Goals as goal
+
+pub take-requires-clause-origin : goal.take-requires-clause-origin
+take-requires-clause-origin c =
+    let w = c.args.world.now in
+    let inside = hand-inside w.cluster w.past c.args.to c.args.origin c.args.number c.requires.last c.is_lawful.ensures.legal in
+    let at = row-at w.cluster _ c.args.self.now c.self.inside.rows.items c.get.result c.args.to (search rules) c.get.ensures.number c.requires.stand c.index_mut.result.now inside.0 c.index_mut.ensures.value in
+    let nodes = at.fed.nodes in
+    omega (arith, inside.1, nodes)
+
+pub want_of-requires : goal.want_of-requires
+want_of-requires c =
+    let w = c.args.world.now in
+    let inside = hand-inside w.cluster w.past c.args.to c.args.origin c.args.number c.requires.last c.is_lawful.ensures.legal in
+    let at = row-at w.cluster _ c.args.self.now c.self.inside.rows.items c.get.result c.args.to (search rules) c.get.ensures.number c.requires.stand c.index_mut.result.now inside.0 c.index_mut.ensures.value in
+    let read = c.in_ok-bytes.ensures.read in
+    none-refused _ read.0 c.in-Err.fault ((λ i. read_as (at.fed.nodes i) c.args.origin (c.as_slice.ensures i)) ∙ read.1) c.in-Err.ensures.refused
+
+pub returns-in-Ok : goal.returns-in-Ok
+returns-in-Ok c =
+    let w = c.args.world.now in
+    hands w.cluster w.past c.args.to c.args.origin c.args.number c.args.self.now c.self.inside.rows.items c.get.result
+    c.index_mut.result.now c.take.new.self c.in_ok-bytes.bytes c.as_slice.result.now
+    c.requires.last c.is_lawful.ensures.legal c.requires.stand (search rules) c.get.ensures.number c.index_mut.ensures.value
+    c.in_ok-bytes.ensures.told c.as_slice.ensures c.in-Ok.ensures.takes c.in-Ok.ensures.taken

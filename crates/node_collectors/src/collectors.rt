@@ -1,0 +1,133 @@
+//! The collectors.
+ghost use Rattle.std.specs.Prelude.{◌≡◌, ◌∷◌, ◌<◌, ◌≤◌, [], Some, drop, length, slice_get, IfOk, OnErr, OnOk};
+ghost use Rattle.history_model.specs.declared.events.Event.TheVariants as events;
+ghost use Rattle.history_model.specs.Cluster.{Cluster};
+ghost use Rattle.history_model.specs.Streams.{stream};
+ghost use Rattle.history_model.specs.Sweeps.{IsVerdict};
+ghost use Rattle.true_config.specs.Promises.{IsFoundBySweep};
+ghost use Rattle.collector.specs.declared.read.TakeFault.TheVariants as faults;
+ghost use Rattle.collector.specs.Collected.{IsSettled};
+ghost use Rattle.collector.specs.Taking.{IsOfStreams};
+ghost use Rattle.node_collectors.specs.Standing.{AreCollectorsAt, IsRead, SweepsOut};
+
+use crate::spelling::is_spellable;
+use collector::{Collector, TakeFault};
+use crgc_ids::{NoMemory, NodeId, Octets};
+use history_model::Verdict;
+use std::alloc::Global;
+use std::marker::Model;
+use true_config::World;
+
+/// As many bulletins as a stream has at most, in a history within its limits.
+const MOST_BULLETINS: u32 = 1_000_000;
+
+/// The collectors of a cluster's nodes, one each. It keeps its allocator. Contracts see the list of the collectors, by node.
+#[derive(Drop)]
+pub struct NodeCollectors {
+    alloc: Global,
+    rows: Vec<Collector>,
+}
+
+impl Model for NodeCollectors {
+    ghost use Rattle.std.specs.Prelude.{List};
+    ghost use Rattle.collector.specs.Collected.{Collected};
+
+    ghost Value = { List Collected };
+
+    ghost view = { λ cs. cs.rows.items };
+}
+
+impl NodeCollectors {
+    /// The collectors of so many nodes, which were given nothing and stopped nobody. Linear time in the number of nodes.
+    pub fn new(alloc: Global, nodes: u8) -> Result<NodeCollectors, NoMemory>
+        requires { nodes ≤ 16 }
+        ensures { IfOk result (λ cs. (cl : Cluster) → cl.nodes ≡ nodes → AreCollectorsAt cl [] cs) }
+    {
+        let mut rows = Vec::new(alloc);
+        for number in 0..nodes {
+            let node = NodeId::new(number).unwrap();
+            let collector = Collector::new(alloc, node, nodes)?;
+            let Ok(()) = rows.push(collector) else {
+                return Err(NoMemory);
+            };
+        }
+        Ok(NodeCollectors { alloc, rows })
+    }
+
+    /// A bulletin goes to the collector of a node, as the world's last event says, a hand to that node: where the collectors
+    /// stood at the history before it, they stand at the history with it. After `NoMemory` they may stand at neither. That is
+    /// also the answer to a number from 1,000,000 on, and to a bulletin with more rows of a kind than four bytes count: no
+    /// history within its limits has either. Time in proportion to n log n for n rows of the bulletin, and to what is folded.
+    pub fn hand(
+        &mut self,
+        world: &World,
+        to: NodeId,
+        origin: NodeId,
+        number: u32,
+    ) -> Result<(), NoMemory>
+        requires last { slice_get world.now.past 0 ≡ Some (events.Hand to origin number) }
+        requires stand { AreCollectorsAt world.now.cluster (drop 1 world.now.past) self.old }
+        ensures { OnOk result (AreCollectorsAt world.now.cluster world.now.past self.new) }
+    {
+        world.is_lawful();
+        let bytes = bytes_of(self.alloc, world, origin, number)?;
+        match self.rows[to.get() as usize].take(origin, number, bytes.as_slice()) {
+            Ok(_) => Ok(()),
+            Err(fault) => Err(want_of(fault)),
+        }
+    }
+
+    /// The verdict of a sweep by the node in the world's history. Afterwards the collectors stand at the history with that
+    /// sweep, and the collector has dropped whom it stopped. After `NoMemory` all is as before. Linear time in the collector's
+    /// graph, and in proportion to n log n for n stops and their owners.
+    pub fn sweep(&mut self, world: &World, node: NodeId) -> Result<Verdict, NoMemory>
+        requires node { node < world.now.cluster.nodes }
+        requires stand { AreCollectorsAt world.now.cluster world.now.past self.old }
+        ensures verdict { IfOk result (IsVerdict world.now.cluster node world.now.past) }
+        ensures found { IfOk result (IsFoundBySweep world.now) }
+        ensures ok { OnOk result (AreCollectorsAt world.now.cluster (events.Sweep node ∷ world.now.past) self.new) }
+        ensures err { OnErr result (self.new ≡ self.old) }
+    {
+        world.is_lawful();
+        sweep_out(&mut self.rows[node.get() as usize])
+    }
+}
+
+/// The collector sweeps, and drops whom it stopped.
+fn sweep_out(collector: &mut Collector) -> Result<Verdict, NoMemory>
+    requires { IsSettled collector.old }
+    ensures ok { IfOk result (SweepsOut collector.old collector.new) }
+    ensures err { OnErr result (collector.new ≡ collector.old) }
+{
+    let verdict = collector.sweep()?;
+    collector.compact();
+    Ok(verdict)
+}
+
+/// The bytes of the origin's bulletin of this number in the world's history. Time in proportion to n log n for n rows.
+fn bytes_of(alloc: Global, world: &World, origin: NodeId, number: u32) -> Result<Octets, NoMemory>
+    requires origin { origin < world.now.cluster.nodes }
+    requires number { number < length (stream world.now.cluster origin world.now.past) }
+    ensures told { IfOk result (IsOfStreams (λ o. stream world.now.cluster o world.now.past) origin number) }
+    ensures read { IfOk result (IsRead world.now.cluster.nodes origin) }
+    ensures within { OnOk result (number < 1_000_000) }
+{
+    world.is_lawful();
+    let Some(bulletin) = world.bulletin(origin, number) else {
+        unreachable!()
+    };
+    if number >= MOST_BULLETINS || !is_spellable(bulletin) {
+        return Err(NoMemory);
+    }
+    graph_wire::write(alloc, bulletin)
+}
+
+/// The one fault for which a collector refuses what a node told.
+fn want_of(fault: TakeFault) -> NoMemory
+    requires { fault ≡ faults.NoMemory }
+{
+    match fault {
+        TakeFault::NoMemory => NoMemory,
+        _ => unreachable!(),
+    }
+}

@@ -1,0 +1,8 @@
+//! The collectors of a cluster's nodes, one each, going with its history.
+#![tactic(auto)]
+
+mod collectors;
+pub mod laws;
+mod spelling;
+
+pub use collectors::NodeCollectors;
