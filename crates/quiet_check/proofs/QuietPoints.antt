@@ -176,13 +176,13 @@ folded_all cl m h folded =
 -- ---- messages
 
 -- the send that gave number k of the link
-abbrev IsSent : ℕ → ℕ → ℕ → List Event → Type 0
+abbrev pub IsSent : ℕ → ℕ → ℕ → List Event → Type 0
 IsSent s d k h =
     (f : Actor) × (t : Actor) × (refs : List Actor) × (p : List Event) × IsMoment (Send f t refs) p h
     × (f.node ≡ s) × (t.node ≡ d) × (tally (is_send_on s d) p ≡ k)
 
 -- each number below the count was given by a send
-number_sent : (s d k : ℕ) (h : List Event) → k < tally (is_send_on s d) h → IsSent s d k h
+pub number_sent : (s d k : ℕ) (h : List Event) → k < tally (is_send_on s d) h → IsSent s d k h
 number_sent s d k [] below = absurd (omega arith)
 number_sent s d k (Send f t refs ∷ p) below =
     let test : Bool = (f.node == s) && (t.node == d) in
@@ -208,7 +208,7 @@ number_sent s d k (_ ∷ p) below =
     (found.0, found.1, found.2, found.3, inr found.4, found.5, found.6, found.7)
 
 -- the number that a send gave is below the count
-sent_number : (f t : Actor) (refs : List Actor) (p h : List Event) → IsMoment (Send f t refs) p h → tally (is_send_on f.node t.node) p < tally (is_send_on f.node t.node) h
+pub sent_number : (f t : Actor) (refs : List Actor) (p h : List Event) → IsMoment (Send f t refs) p h → tally (is_send_on f.node t.node) p < tally (is_send_on f.node t.node) h
 sent_number f t refs p [] moment = absurd moment
 sent_number f t refs p (e ∷ q) (inl here) =
     let one : is_send_on f.node t.node e ≡ true = subst (λ x. is_send_on f.node t.node x ≡ true) here.0 (and_from (f.node == f.node) (t.node == t.node) (eq-eqb f.node f.node refl) (eq-eqb t.node t.node refl)) in

@@ -1,14 +1,19 @@
--- What the plain programs compute: a finite test for each part of a quiet point. The actors and the messages that a part
+-- What the plain programs compute: a finite test for each part of a quiet point, and a greatest part for quiescence. The actors and the messages that a part
 -- speaks of are found by going over the events.
-use Rattle.std.specs.Prelude.{ℕ, zero, suc, ◌==◌, Bool, true, false, ◌&&◌, ◌||◌, not, nat_lt, List, [], ◌∷◌, ◌++◌}
-use Rattle.std.specs.List.{list_any}
+use Rattle.std.specs.Prelude.{ℕ, zero, suc, ◌==◌, Bool, true, false, ◌&&◌, ◌||◌, not, nat_lt, if◌then◌else◌, List, [], ◌∷◌, ◌++◌, length, map, Option, Some, None}
+use Rattle.std.specs.List.{filter, list_all, list_any}
+use Rattle.crgc_ids.specs.Greatest.{greatest}
 use Rattle.crgc_ids.specs.Actor.{Actor}
 use Rattle.history_model.specs.declared.events.Event.{Event}
 use Rattle.history_model.specs.declared.events.Event.TheVariants.{Seed, Tie, Take, Spawn, Send, Flush, Publish, Window, Lose, Remove}
 use Rattle.history_model.specs.Tally.{tally}
-use Rattle.history_model.specs.Cluster.{Cluster, newborn, is_born}
-use Rattle.history_model.specs.Messages.{copies, is_admit, is_closed, was_admitted}
-use Rattle.history_model.specs.State.{is_up}
+use Rattle.history_model.specs.Cluster.{Cluster, newborn, is_born, same_actor}
+use Rattle.history_model.specs.Graph.{holds_actor}
+use Rattle.history_model.specs.Held.{held}
+use Rattle.history_model.specs.Live.{is_under_way}
+use Rattle.quiet_check.specs.declared.messages.Carrying.{Carrying}
+use Rattle.history_model.specs.Messages.{Message, admitted_by, copies, is_admit, is_closed, mail, takes, was_admitted}
+use Rattle.history_model.specs.State.{is_busy, is_root, is_up}
 use Rattle.history_model.specs.Streams.{can_flush, is_blank, queue}
 use Rattle.history_model.specs.Folds.{was_handed}
 
@@ -104,3 +109,59 @@ is_plain_quiet_point cl m h =
     && (not (list_any (is_unflushed cl h) (owners h))
     && (not (list_any (leaves_entry cl h) h)
     && (all_below (is_folded m h) cl.nodes && not (some_moment (is_missing h) h)))))
+
+-- ---- messages
+
+-- what a plain program keeps of a message, where it asks after actor a
+abbrev pub carrying : Actor → Message → Carrying
+carrying a m = record { to = m.to; refs = tally (same_actor a) m.refs }
+
+-- it goes to a, or carries a
+abbrev pub touches : Actor → Carrying → Bool
+touches a c = same_actor c.to a || nat_lt 0 c.refs
+
+-- how many messages to b it is
+abbrev pub counts : Actor → Option Carrying → ℕ
+counts b None = 0
+counts b (Some c) = if same_actor c.to b then 1 else 0
+
+-- a message to b that is admitted after p still waits at the moment h, on a node that is up
+abbrev pub waits : List Event → List Event → Actor → Bool
+waits h p b = is_up b.node h && not (nat_lt (length (mail b p)) (takes b h))
+
+-- number k is on the link between two different nodes, the second of which is up
+abbrev pub is_coming : List Event → ℕ → ℕ → ℕ → Bool
+is_coming h s d k = not (s == d) && (is_up d h && is_under_way s d h k)
+
+abbrev pub uses_waiting : List Event → Actor → List Event → Carrying → Bool
+uses_waiting h a p c = touches a c && waits h p c.to
+
+abbrev pub uses_coming : List Event → Actor → Event → List Event → Bool
+uses_coming h a (Send f t refs) p =
+    touches a (carrying a (record { from = f; to = t; refs = refs })) && is_coming h f.node t.node (tally (is_send_on f.node t.node) p)
+uses_coming h a _ p = false
+
+-- a message that the event admits or sends is live at the moment h, and goes to a or carries a
+abbrev pub uses : List Event → Actor → Event → List Event → Bool
+uses h a e p = list_any (uses_waiting h a p) (map (carrying a) (admitted_by e p)) || uses_coming h a e p
+
+-- how many references a take of the message gives b, where n messages to b came before and b takes t
+abbrev pub brings : Actor → ℕ → ℕ → Option Carrying → ℕ
+brings b n t None = 0
+brings b n t (Some c) = if same_actor c.to b && nat_lt n t then c.refs else 0
+
+-- ---- quiescence
+
+abbrev pub is_candidate : List Event → Actor → Bool
+is_candidate h a = is_born a h && (not (is_busy a h) && (not (is_root a h) && not (some_moment (uses h a) h)))
+
+-- b, on a node that is up, holds a
+abbrev pub is_holder : Cluster → List Event → Actor → Actor → Bool
+is_holder cl h a b = is_up b.node h && nat_lt 0 (held cl b a h)
+
+-- all that hold a on nodes that are up are in the list
+abbrev pub is_held_within : Cluster → List Event → List Actor → Actor → Bool
+is_held_within cl h xs a = list_all (λ b. holds_actor xs b || not (is_holder cl h a b)) (owners h)
+
+unfoldable pub plain_quiescent : Cluster → List Event → List Actor
+plain_quiescent cl h = greatest (is_held_within cl h) (filter (is_candidate h) (owners h))

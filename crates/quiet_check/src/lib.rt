@@ -4,12 +4,16 @@
 
 mod actors;
 mod constants;
+mod held;
 mod links;
 mod logs;
+mod messages;
 mod nodes;
+mod quiescence;
 mod quiet_points;
 mod streams;
 
+pub use quiescence::is_quiescent;
 pub use quiet_points::is_quiet_point;
 
 #[cfg(test)]

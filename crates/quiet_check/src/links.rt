@@ -8,7 +8,7 @@ use crate::nodes::is_node_up;
 use crgc_ids::ActorId;
 use history_model::Event;
 
-fn is_sent_on(event: &Event, from: u8, at: u8) -> bool
+pub fn is_sent_on(event: &Event, from: u8, at: u8) -> bool
     ensures { result ≡ is_send_on from at event.now }
 {
     match event {
