@@ -130,18 +130,19 @@ fn drops_by(events: &[Event], owner: ActorId, target: ActorId) -> usize
     dropped
 }
 
-/// How many references a take of the message gives the owner, where `earlier` messages to it came before and it takes `limit`.
+/// How many references a take of the message gives the owner, which takes `limit` messages, where it is admitted after the
+/// earlier events.
 fn references_brought(
     message: Option<Carrying>,
     owner: ActorId,
-    earlier: usize,
+    earlier: &[Event],
     limit: usize,
 ) -> usize
-    ensures { result ≡ brings owner earlier limit message }
+    ensures { result ≡ brings owner (length (mail owner (reverse earlier.now))) limit message }
 {
     match message {
         Some(found) => {
-            if is_same(found.to, owner) && earlier < limit {
+            if is_same(found.to, owner) && mail_to(earlier, owner) < limit {
                 found.refs
             } else {
                 0
@@ -167,7 +168,7 @@ fn carried_after(
     ensures bound { result ≤ before + 18446744073709551616 }
 {
     let message = admitted_message(event, earlier, target);
-    before + references_brought(message, owner, mail_to(earlier, owner), limit) as u128
+    before + references_brought(message, owner, earlier, limit) as u128
 }
 
 /// How many references to the target came to the owner in the messages that it took.
@@ -182,7 +183,7 @@ fn carried_to(events: &[Event], owner: ActorId, target: ActorId) -> u128
     brought
 }
 
-/// Whether the owner holds a reference to the target. Cubic time.
+/// Whether the owner holds a reference to the target. The fourth power of the number of events at worst.
 pub fn is_held_by(cluster: Constants, events: &[Event], owner: ActorId, target: ActorId) -> bool
     ensures { result ≡ nat_lt 0 (held cluster owner target (reverse events.now)) }
 {

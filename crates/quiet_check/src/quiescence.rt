@@ -121,8 +121,8 @@ fn is_in_quiet_set(
 }
 
 /// Whether the actor is quiescent: some set of actors has it that nobody outside can use, and no member of which acts of
-/// itself. The sixth power of the number of events. The answer is `NoMemory` too where the history is past its limits: more
-/// actors on a node than serials.
+/// itself. The seventh power of the number of events at worst, so for short histories. The answer is `NoMemory` too where
+/// the history is past its limits: more actors on a node than serials.
 pub fn is_quiescent(alloc: Global, history: &History, actor: ActorId) -> Result<bool, NoMemory>
     ensures { IfOk result (λ b. (b ≡ true) ↔ IsQuiescent history.now.cluster history.now.past actor) }
 {
