@@ -1,10 +1,10 @@
 -- The history that a text tells, by its header and the lines after it.
-use Rattle.std.proofs.Common.{◌≡◌, ◌≤◌, ◌<◌, ℕ, Bool, true, false, if◌then◌else◌, List, [], ◌∷◌, length, nat_lt, Some, None, Option, Result, Ok, Err, sym, ◌∙◌, ap, arith}
+use Rattle.std.proofs.Common.{◌≡◌, ◌≤◌, ℕ, Bool, false, if◌then◌else◌, List, ◌∷◌, length, nat_lt, Some, Option, Result, Ok, Err, sym, ◌∙◌, ap, arith}
 use Rattle.std.proofs.lemmas.Bool.Decides.{nat_tests}
 use Rattle.crgc_ids.specs.declared.Which.TheVariants.{Input}
 use Rattle.history_model.specs.Cluster.{Cluster}
 use Rattle.history_model.specs.Story.{Story}
-use Rattle.journal_model.specs.Journals.{Fault, Replay, after_header, after_lines, header, header_of, journal_lines, journal_of, limit, told_of}
+use Rattle.journal_model.specs.Journals.{Fault, Replay, after_header, after_lines, header_of, journal_lines, journal_of, limit, told_of}
 use Rattle.journal_model.specs.Lines.{lines_of}
 use Rattle.journal_player.specs.Faults.{IsPlayFault}
 use Rattle.journal_player.specs.Following.{Following, start}
@@ -14,28 +14,14 @@ use Rattle.journal_player.specs.declared.fault.PlayFault.TheVariants.{Journal, L
 abbrev Told : Type 0
 Told = Result Story (ℕ × Fault)
 
--- a text that is too long is at fault as a whole
-pub journal-long : (text : List ℕ) → 16777216 < length text → journal_of text ≡ Err (0, limit Input)
-journal-long text long =
-    let test : nat_lt 16777216 (length text) ≡ true = grind (arith, nat_tests, long) in
-    let choose : Bool → Told = λ b. if b then Err (0, limit Input) else journal_lines (lines_of text) in
-    ap choose test
-
 journal-short : (text : List ℕ) → length text ≤ 16777216 → journal_of text ≡ journal_lines (lines_of text)
 journal-short text short =
     let test : nat_lt 16777216 (length text) ≡ false = grind (arith, nat_tests, short) in
     let choose : Bool → Told = λ b. if b then Err (0, limit Input) else journal_lines (lines_of text) in
     ap choose test
 
--- without a line there is no header
-pub journal-empty : (text : List ℕ) → length text ≤ 16777216 → lines_of text ≡ [] → journal_of text ≡ Err (1, header)
-journal-empty text short none = journal-short text short ∙ ap journal_lines none
-
 journal-begun : (text first : List ℕ) (rest : List (List ℕ)) (o : Option Cluster) → length text ≤ 16777216 → lines_of text ≡ first ∷ rest → header_of first ≡ o → journal_of text ≡ after_header o rest
 journal-begun text first rest o short lines is = journal-short text short ∙ ap journal_lines lines ∙ ap (λ x. after_header x rest) is
-
-pub journal-headless : (text first : List ℕ) (rest : List (List ℕ)) → length text ≤ 16777216 → lines_of text ≡ first ∷ rest → header_of first ≡ None → journal_of text ≡ Err (1, header)
-journal-headless text first rest short lines none = journal-begun text first rest None short lines none
 
 -- what was begun is the cluster of the header, before the first event
 pub record IsBegun (line : List ℕ) (from : Following) : Type 0 where

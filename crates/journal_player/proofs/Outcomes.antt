@@ -4,7 +4,7 @@ use Rattle.std.specs.Prelude.{IfOk, unwrap_or}
 use Rattle.crgc_ids.specs.declared.NoMemory.{NoMemory}
 use Rattle.crgc_ids.specs.declared.Which.{Which}
 use Rattle.history_model.specs.declared.events.Rule.{Rule}
-use Rattle.journal_model.specs.Journals.{Fault, Replay, allowed}
+use Rattle.journal_model.specs.Journals.{Replay, allowed}
 use Rattle.true_config.specs.Applying.{hindered}
 use Rattle.true_config.specs.declared.applied.Applied.{Applied}
 use Rattle.true_config.specs.declared.applied.Applied.TheVariants.{Done, Illegal, Limit as Limited}
@@ -40,7 +40,3 @@ halts-so None None t (Ok (Limited which)) h is halt next = absurd (cc)
 halts-so o l t (Err e) h is halt next =
     let same : halts.NoMemory ≡ h = cc in
     subst (λ x. IsHalt x (allowed o l next)) same tt
-
--- want of memory says nothing
-pub no-memory : {R : Type 0} (r : Result R Fault) → IsHalt halts.NoMemory r
-no-memory r = tt
