@@ -6,3 +6,6 @@ pub mod laws;
 mod spelling;
 
 pub use collectors::NodeCollectors;
+
+#[cfg(test)]
+mod tests;
