@@ -1,6 +1,8 @@
-use crate::{Cause, Status, crgc_top, plain_top};
+use crate::{Cause, Status, Which, crgc_top, plain_top};
 use crgc_ids::ActorId;
 use crgc_io::{Gate, MemorySink, MemorySource, QuietGate};
+use history_model::Rule;
+use std::alloc::Global;
 use std::sync::atomic::{AtomicU64, Ordering};
 use std::test::Fail;
 
@@ -31,61 +33,193 @@ const OUT_OF_ORDER_REPORT: &str =
 
 const HEADER_ALONE_REPORT: &str = "crgc 1 nodes 1\nend events 0 stopped 0\n";
 
-const UNBUILT: Status = Status::Journal {
-    line: 0,
-    cause: Cause::Unbuilt,
-};
+const CYCLE_OVER_TWO_NODES: &str =
+    "crgc 1 nodes 2\nseed 0\nseed 1\ntie 0.0 1.0\nwake 0.0\nspawn 0.0\nwake 1.0\nspawn 1.0\n\
+     send 0.0 1.0 0.1\nrest 1.0\nadmit 0 1 0\ntake 1.0\nsend 1.0 0.1 1.1\nsend 1.0 1.1 0.1\n\
+     drop 1.0 0.1\ndrop 1.0 1.1\nrest 1.0\ndrop 0.0 0.1\nrest 0.0\nadmit 1 0 0\ntake 0.1\nrest 0.1\n\
+     take 1.1\nrest 1.1\nflush 0.0\nflush 0.1\nflush 1.0\nflush 1.1\npublish 0\npublish 1\n\
+     hand 0 0 0\nhand 0 1 0\nhand 1 0 0\nhand 1 1 0\nsweep 0\nsweep 1\n";
+
+const CYCLE_OVER_TWO_NODES_REPORT: &str =
+    "crgc 1 nodes 2\nseed 0\nseed 1\ntie 0.0 1.0\nwake 0.0\nspawn 0.0\nwake 1.0\nspawn 1.0\n\
+     send 0.0 1.0 0.1\nrest 1.0\nadmit 0 1 0\ntake 1.0\nsend 1.0 0.1 1.1\nsend 1.0 1.1 0.1\n\
+     drop 1.0 0.1\ndrop 1.0 1.1\nrest 1.0\ndrop 0.0 0.1\nrest 0.0\nadmit 1 0 0\ntake 0.1\nrest 0.1\n\
+     take 1.1\nrest 1.1\nflush 0.0\nflush 0.1\nflush 1.0\nflush 1.1\npublish 0\npublish 1\n\
+     hand 0 0 0\nhand 0 1 0\nhand 1 0 0\nhand 1 1 0\nsweep 0\ncut 0 1 1 lost\n\
+     stop 0.1 by 0 received 1 told 1 admitted 0 owners 0.1 1.1\nsweep 1\ncut 1 1 1 lost\n\
+     stop 1.1 by 1 received 1 told 1 admitted 0 owners 0.1 1.1\nend events 35 stopped 2\n";
+
+const CRASH_AFTER_18_EVENTS: &str =
+    "crgc 1 nodes 2\nseed 0\nseed 1\ntie 0.0 1.0\nwake 0.0\nspawn 0.0\nwake 1.0\nspawn 1.0\n\
+     send 0.0 1.0 0.1\nrest 1.0\nadmit 0 1 0\ntake 1.0\nsend 1.0 0.1 1.1\nsend 1.0 1.1 0.1\n\
+     drop 1.0 0.1\ndrop 1.0 1.1\nrest 1.0\ndrop 0.0 0.1\nrest 0.0\ncrash 1\nremove 0 1\nflush 0.0\n\
+     flush 0.1\npublish 0\nhand 0 0 0\nhand 0 0 1\nsweep 0\n";
+
+const CRASH_AFTER_18_EVENTS_REPORT: &str =
+    "crgc 1 nodes 2\nseed 0\nseed 1\ntie 0.0 1.0\nwake 0.0\nspawn 0.0\nwake 1.0\nspawn 1.0\n\
+     send 0.0 1.0 0.1\nrest 1.0\nadmit 0 1 0\ntake 1.0\nsend 1.0 0.1 1.1\nsend 1.0 1.1 0.1\n\
+     drop 1.0 0.1\ndrop 1.0 1.1\nrest 1.0\ndrop 0.0 0.1\nrest 0.0\ncrash 1\nremove 0 1\nflush 0.0\n\
+     flush 0.1\npublish 0\nhand 0 0 0\nhand 0 0 1\nsweep 0\ncut 0 2 0 lost 1\n\
+     stop 0.1 by 0 received 0 told 0 admitted 0 owners 0.1\nend events 26 stopped 1\n";
+
+const CRASH_AFTER_21_EVENTS: &str =
+    "crgc 1 nodes 2\nseed 0\nseed 1\ntie 0.0 1.0\nwake 0.0\nspawn 0.0\nwake 1.0\nspawn 1.0\n\
+     send 0.0 1.0 0.1\nrest 1.0\nadmit 0 1 0\ntake 1.0\nsend 1.0 0.1 1.1\nsend 1.0 1.1 0.1\n\
+     drop 1.0 0.1\ndrop 1.0 1.1\nrest 1.0\ndrop 0.0 0.1\nrest 0.0\nadmit 1 0 0\ntake 0.1\nrest 0.1\n\
+     crash 1\nremove 0 1\nflush 0.0\nflush 0.1\npublish 0\nhand 0 0 0\nhand 0 0 1\nsweep 0\n";
+
+const CRASH_AFTER_21_EVENTS_REPORT: &str =
+    "crgc 1 nodes 2\nseed 0\nseed 1\ntie 0.0 1.0\nwake 0.0\nspawn 0.0\nwake 1.0\nspawn 1.0\n\
+     send 0.0 1.0 0.1\nrest 1.0\nadmit 0 1 0\ntake 1.0\nsend 1.0 0.1 1.1\nsend 1.0 1.1 0.1\n\
+     drop 1.0 0.1\ndrop 1.0 1.1\nrest 1.0\ndrop 0.0 0.1\nrest 0.0\nadmit 1 0 0\ntake 0.1\nrest 0.1\n\
+     crash 1\nremove 0 1\nflush 0.0\nflush 0.1\npublish 0\nhand 0 0 0\nhand 0 0 1\nsweep 0\n\
+     cut 0 2 0 lost 1\nstop 0.1 by 0 received 1 told 0 admitted 1 owners 0.1\n\
+     end events 29 stopped 1\n";
+
+const BRIEF_REPORT: &str = "crgc 1 nodes 1\nnode 0 born 2 stopped 1\ntotal born 2 stopped 1\n";
+
+const CHANGED_STOP: &str =
+    "crgc 1 nodes 1\nseed 0\nwake 0.0\nspawn 0.0\ndrop 0.0 0.1\nrest 0.0\nflush 0.0\nflush 0.1\n\
+     publish 0\nhand 0 0 0\nsweep 0\ncut 0 1 lost\n\
+     stop 0.1 by 0 received 1 told 0 admitted 0 owners 0.1\nend events 10 stopped 1\n";
+
+const THIRD_TAKE: &str =
+    "crgc 1 nodes 2\nseed 0\nseed 1\ntie 0.0 1.0\nwake 0.0\nsend 0.0 1.0\nrepeat 0 1 0\nadmit 0 1 0\n\
+     admit 0 1 0\ntake 1.0\nrest 1.0\ntake 1.0\n";
+
+const LAST_REFERENCE_TO_A_PARENT: &str =
+    "crgc 2 nodes 1\nseed 0\nwake 0.0\nspawn 0.0\nsend 0.0 0.1\ntake 0.1\ndrop 0.1 0.0\n";
+
+/// With these words and this input: the status, and the bytes that were written.
+fn ended(alloc: Global, words: &[&str], input: &str) -> Result<(Status, Vec<u8>), Fail> {
+    let mut said = Vec::new(alloc);
+    for word in words {
+        said.push(String::from_str(alloc, word)?)?;
+    }
+    let none = Vec::new(alloc);
+    let mut source = MemorySource::new(input.as_bytes().to_vec(alloc)?, 7, none);
+    let mut sink = MemorySink::new(alloc, 1000, 9, Vec::new(alloc))
+        .ok()
+        .ok_or("memory")?;
+    let status = plain_top(alloc, said.as_slice(), &mut source, &mut sink);
+    Ok((status, sink.bytes().to_vec(alloc)?))
+}
 
 #[test]
-fn journals_of_one_node_are_played(rt: HostRuntime) -> Result<(), Fail> {
+fn journals_are_played(rt: HostRuntime) -> Result<(), Fail> {
     let cases = [
-        ("crgc 1 nodes 1\n", Status::Done, HEADER_ALONE_REPORT),
-        (DROPPED_CHILD, Status::Done, DROPPED_CHILD_REPORT),
-        (NO_OWN_ENTRY, Status::Done, NO_OWN_ENTRY_REPORT),
-        (OUT_OF_ORDER, Status::Done, OUT_OF_ORDER_REPORT),
-        ("", UNBUILT, "fault 7 line 0 unbuilt\n"),
-        ("crgc 1 nodes 2\n", UNBUILT, "fault 7 line 0 unbuilt\n"),
+        ("crgc 1 nodes 1\n", HEADER_ALONE_REPORT),
+        (DROPPED_CHILD, DROPPED_CHILD_REPORT),
+        (DROPPED_CHILD_REPORT, DROPPED_CHILD_REPORT),
+        (NO_OWN_ENTRY, NO_OWN_ENTRY_REPORT),
+        (OUT_OF_ORDER, OUT_OF_ORDER_REPORT),
+        (CYCLE_OVER_TWO_NODES, CYCLE_OVER_TWO_NODES_REPORT),
+        (CRASH_AFTER_18_EVENTS, CRASH_AFTER_18_EVENTS_REPORT),
+        (CRASH_AFTER_21_EVENTS, CRASH_AFTER_21_EVENTS_REPORT),
+    ];
+    for (input, report) in cases {
+        let (status, written) = ended(rt.alloc(), &["play"], input)?;
+        assert_eq!(rt; status, Status::Done);
+        assert_eq!(rt; written.as_slice(), report.as_bytes());
+    }
+    let (status, written) = ended(rt.alloc(), &["play", "--brief"], DROPPED_CHILD)?;
+    assert_eq!(rt; status, Status::Done);
+    assert_eq!(rt; written.as_slice(), BRIEF_REPORT.as_bytes());
+    Ok(())
+}
+
+#[test]
+fn the_first_faulty_line_is_told(rt: HostRuntime) -> Result<(), Fail> {
+    let cases = [
+        ("", 1, Cause::Header, "fault 7 line 1 header\n"),
+        (
+            "crgc 1 nodes 17\n",
+            1,
+            Cause::Header,
+            "fault 7 line 1 header\n",
+        ),
+        (
+            "crgc 1 nodes 1\nSeed 0\n",
+            2,
+            Cause::Word,
+            "fault 7 line 2 word\n",
+        ),
         (
             "crgc 1 nodes 1\nseed 00\n",
-            UNBUILT,
-            "fault 7 line 0 unbuilt\n",
+            2,
+            Cause::Field,
+            "fault 7 line 2 field\n",
         ),
         (
-            "crgc 1 nodes 1\nrest 0.0\n",
-            UNBUILT,
-            "fault 7 line 0 unbuilt\n",
+            "crgc 1 nodes 1\nseed 0 \n",
+            2,
+            Cause::Extra,
+            "fault 7 line 2 extra\n",
         ),
         (
-            "crgc 1 nodes 1\nseed 0\nretire 0.0\n",
-            UNBUILT,
-            "fault 7 line 0 unbuilt\n",
+            CHANGED_STOP,
+            13,
+            Cause::Differs,
+            "fault 7 line 13 differs\n",
+        ),
+        (
+            "crgc 1 nodes 1\nend events 0 stopped 0\nseed 0\n",
+            3,
+            Cause::AfterEnd,
+            "fault 7 line 3 after-end\n",
+        ),
+        (
+            THIRD_TAKE,
+            12,
+            Cause::Rule(Rule::NoMail),
+            "fault 7 line 12 no-mail\n",
+        ),
+        (
+            LAST_REFERENCE_TO_A_PARENT,
+            7,
+            Cause::Rule(Rule::Supervisor),
+            "fault 7 line 7 supervisor\n",
         ),
     ];
-    for (input, status, output) in cases {
-        let none = Vec::new(rt.alloc());
-        let mut source = MemorySource::new(input.as_bytes().to_vec(rt.alloc())?, 7, none);
-        let mut sink = MemorySink::new(rt.alloc(), 1000, 9, Vec::new(rt.alloc()))
-            .ok()
-            .ok_or("memory")?;
-        let words = [String::from_str(rt.alloc(), "play")?];
-        assert_eq!(rt;
-            plain_top(rt.alloc(), &words, &mut source, &mut sink),
-            status
-        );
-        assert_eq!(rt; sink.bytes(), output.as_bytes());
+    for (input, line, cause, told) in cases {
+        let (status, written) = ended(rt.alloc(), &["play"], input)?;
+        assert_eq!(rt; status, Status::Journal { line, cause });
+        assert_eq!(rt; written.as_slice(), told.as_bytes());
     }
     Ok(())
 }
 
 #[test]
+fn an_input_that_is_too_long_passes_a_limit(rt: HostRuntime) -> Result<(), Fail> {
+    let words = [String::from_str(rt.alloc(), "play")?];
+    let bytes = vec![in rt.alloc(); b'\n'; 16_777_217]?;
+    let mut source = MemorySource::new(bytes, 65_536, Vec::new(rt.alloc()));
+    let mut sink = MemorySink::new(rt.alloc(), 100, 9, Vec::new(rt.alloc()))
+        .ok()
+        .ok_or("memory")?;
+    let status = plain_top(rt.alloc(), &words, &mut source, &mut sink);
+    assert_eq!(rt; status, Status::Limit(Which::Input));
+    assert_eq!(rt; sink.bytes(), b"fault 6 limit input\n".as_slice());
+    Ok(())
+}
+
+#[test]
 fn other_words_are_refused_and_the_source_is_not_read(rt: HostRuntime) -> Result<(), Fail> {
-    for word in ["run", "plays", "--help"] {
+    let cases = [
+        ["play", "--help"],
+        ["--brief", "play"],
+        ["plays", "--brief"],
+    ];
+    for [command, option] in cases {
         let fails_at_once = [0].to_vec(rt.alloc())?;
         let mut source = MemorySource::new(Vec::new(rt.alloc()), 7, fails_at_once);
         let mut sink = MemorySink::new(rt.alloc(), 100, 9, Vec::new(rt.alloc()))
             .ok()
             .ok_or("memory")?;
-        let words = [String::from_str(rt.alloc(), word)?];
+        let words = [
+            String::from_str(rt.alloc(), command)?,
+            String::from_str(rt.alloc(), option)?,
+        ];
         let mut kept = None;
         let status = crgc_top(
             &rt,
