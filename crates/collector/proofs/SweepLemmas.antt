@@ -25,7 +25,7 @@ use Rattle.shadow_table.specs.Shadows.{as_dropped, is_named, place_in, shadow_at
 use Rattle.gossip_core.specs.Gossip.{count_at, kept_at}
 use Rattle.shadow_graph.specs.Graph.{Graph, lost_in}
 use Rattle.shadow_graph.specs.Places.{ArePlaced, actor_of}
-use Rattle.shadow_graph.specs.Tabled.{no_actor}
+use Rattle.shadow_rows.specs.Tabled.{no_actor}
 use Rattle.shadow_graph.specs.Seen.{Drops, is_dropped, is_known}
 use Rattle.shadow_graph.specs.Stands.{IsGraphOf}
 use Rattle.shadow_graph.proofs.GraphLemmas.{lost-same}

@@ -1,5 +1,5 @@
 -- The collectors of a cluster go with its history: at its start, as one of them changes, and as none does.
-use Rattle.std.proofs.Common.{◌≡◌, ◌≢◌, ◌<◌, ℕ, zero, suc, false, List, [], ◌∷◌, ◌++◌, Err, Ok, Result, Some, drop, get_or, get_or-set_other, get_or-set_same, length, length-set, set, refl, sym, ap, subst, ◌∙◌, inl, inr, arith}
+use Rattle.std.proofs.Common.{◌≡◌, ◌≢◌, ◌<◌, ◌≤◌, ℕ, zero, suc, false, List, [], ◌∷◌, ◌++◌, Err, Ok, Result, Some, drop, get_or, get_or-set_other, get_or-set_same, length, length-set, set, refl, sym, ap, subst, ◌∙◌, inl, inr, arith}
 use Rattle.std.proofs.lemmas.Bool.{cases_eq, false≢true, ltb-true, ne_eqb}
 use Rattle.std.proofs.lemmas.Option.{get_or_from_slice_get, slice_get-get_or, slice_get_within}
 use Rattle.std.specs.Prelude.{IfOk, OnOk, slice_get}
@@ -11,6 +11,8 @@ use Rattle.history_model.specs.Legal.{IsLegal}
 use Rattle.history_model.specs.Streams.{stream}
 use Rattle.history_model.specs.Sweeps.{IsVerdict}
 use Rattle.history_model.proofs.Basics.{legal-kept}
+use Rattle.bulletin_streams.specs.Standing.{IsWithinLimits}
+use Rattle.bulletin_streams.proofs.BoundLemmas.{stream-short}
 use Rattle.collector.specs.Collected.{Collected, IsCollectorAt}
 use Rattle.collector.specs.Following.{is_own}
 use Rattle.collector.specs.Taking.{IsOfStreams, IsTaken, Takes}
@@ -102,6 +104,17 @@ pub hand-inside : (cl : Cluster) (h : List Event) (m o k : ℕ) → slice_get h 
 hand-inside cl h m o k last legal =
     let kept = legal-kept cl (Hand m o k) (drop 1 h) (subst (IsLegal cl) (sym (split-last h (Hand m o k) last)) legal) in
     (ltb-true m cl.nodes kept.0, ltb-true o cl.nodes kept.1.0)
+
+-- a stream of a history within its limits has so few bulletins that the number of a hand is below 1,000,000
+pub hand-short : (cl : Cluster) (h : List Event) (m o k : ℕ) → slice_get h 0 ≡ Some (Hand m o k) → IsWithinLimits cl h → k < 1000000
+hand-short cl h m o k last within =
+    let p = drop 1 h in
+    let whole = split-last h (Hand m o k) last in
+    let kept = legal-kept cl (Hand m o k) p (subst (IsLegal cl) (sym whole) within.legal) in
+    let number = ltb-true k (length (stream cl o p)) kept.1.1.1.0 in
+    let short = stream-short cl o p in
+    let events : length (Hand m o k ∷ p) ≤ 1000000 = subst (λ q. length q ≤ 1000000) (sym whole) within.events in
+    omega arith
 
 -- the collectors go with a hand, where that of its node took the bytes
 pub hands : (cl : Cluster) (h : List Event) (m o k : ℕ) (old items : List Collected) (i : ℕ) (was new : Collected) (bytes taken_bytes : List ℕ)

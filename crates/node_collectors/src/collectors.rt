@@ -11,15 +11,13 @@ ghost use Rattle.collector.specs.Taking.{IsOfStreams};
 ghost use Rattle.node_collectors.specs.Standing.{AreCollectorsAt, IsRead, SweepsOut};
 
 use crate::spelling::is_spellable;
+use bulletin_streams::laws::bulletins_fit_the_wire;
 use collector::{Collector, TakeFault};
 use crgc_ids::{NoMemory, NodeId, Octets};
 use history_model::Verdict;
 use std::alloc::Global;
 use std::marker::Model;
 use true_config::World;
-
-/// As many bulletins as a stream has at most, in a history within its limits.
-const MOST_BULLETINS: u32 = 1_000_000;
 
 /// The collectors of a cluster's nodes, one each. It keeps its allocator. Contracts see the list of the collectors, by node.
 #[derive(Drop)]
@@ -55,9 +53,8 @@ impl NodeCollectors {
     }
 
     /// A bulletin goes to the collector of a node, as the world's last event says, a hand to that node: where the collectors
-    /// stood at the history before it, they stand at the history with it. After `NoMemory` they may stand at neither. That is
-    /// also the answer to a number from 1,000,000 on, and to a bulletin with more rows of a kind than four bytes count: no
-    /// history within its limits has either. Time in proportion to n log n for n rows of the bulletin, and to what is folded.
+    /// stood at the history before it, they stand at the history with it. After `NoMemory` they may stand at neither. Time in
+    /// proportion to n log n for n rows of the bulletin, and to what is folded.
     pub fn hand(
         &mut self,
         world: &World,
@@ -110,15 +107,13 @@ fn bytes_of(alloc: Global, world: &World, origin: NodeId, number: u32) -> Result
     requires number { number < length (stream world.now.cluster origin world.now.past) }
     ensures told { IfOk result (IsOfStreams (λ o. stream world.now.cluster o world.now.past) origin number) }
     ensures read { IfOk result (IsRead world.now.cluster.nodes origin) }
-    ensures within { OnOk result (number < 1_000_000) }
 {
     world.is_lawful();
+    bulletins_fit_the_wire();
     let Some(bulletin) = world.bulletin(origin, number) else {
         unreachable!()
     };
-    if number >= MOST_BULLETINS || !is_spellable(bulletin) {
-        return Err(NoMemory);
-    }
+    is_spellable(bulletin);
     graph_wire::write(alloc, bulletin)
 }
 

@@ -1,20 +1,20 @@
-//! Which bulletins have a spelling.
-ghost use Rattle.std.specs.Prelude.{◌↔◌, ◌<◌, ◌^◌, IsTrue};
+//! What fits the wire has a spelling. The functions only read, and answer nothing: their contracts are the law, since the types of
+//! the rows keep their numbers in range.
+ghost use Rattle.std.specs.Prelude.{◌≢◌, ◌<◌, ◌^◌, length};
 ghost use Rattle.std.specs.List.{AllByRecursion};
 ghost use Rattle.crgc_ids.specs.Actor.{IsActor};
+ghost use Rattle.history_model.specs.Ledgers.{delta_ledger, window_ledger};
+ghost use Rattle.bulletin_streams.specs.Standing.{FitsWire, HasFewRows};
 ghost use Rattle.wire_grammar.specs.Spellable.{AreCounts, ArePairs, AreStates, IsDelta, IsSpellable, IsStateRow, IsWindow};
 ghost use Rattle.node_collectors.specs.Rows.{IsInRange, IsPairInRange};
 
 use crgc_ids::{ActorCount, ActorCounts, ActorId, PairCount, PairCounts};
 use history_model::{Bulletin, Delta, StateRow, StateRows, Window};
 
-/// How many rows of a section four bytes count.
-const MOST_ROWS: usize = 0xffff_ffff;
-
-/// Whether the bulletin has a spelling: its link, if it has one, leads from another node, and its rows are few enough. Linear
-/// time in the number of rows.
-pub fn is_spellable(b: &Bulletin) -> bool
-    ensures { IsTrue result ↔ IsSpellable b.now }
+/// A bulletin that fits the wire has a spelling. Linear time in the number of rows.
+pub fn is_spellable(b: &Bulletin)
+    requires { FitsWire b.now }
+    ensures { IsSpellable b.now }
 {
     match b {
         Bulletin::Delta(delta) => is_delta(delta),
@@ -23,46 +23,47 @@ pub fn is_spellable(b: &Bulletin) -> bool
     }
 }
 
-fn is_delta(delta: &Delta) -> bool
-    ensures { IsTrue result ↔ IsDelta delta.now }
+fn is_delta(delta: &Delta)
+    requires { HasFewRows (delta_ledger delta.now) }
+    ensures { IsDelta delta.now }
 {
     let _node = delta.node.get();
-    are_states(&delta.states)
-        && are_counts(&delta.sent)
-        && are_pairs(&delta.created)
-        && are_pairs(&delta.released)
+    are_states(&delta.states);
+    are_counts(&delta.sent);
+    are_pairs(&delta.created);
+    are_pairs(&delta.released);
 }
 
-fn is_window(window: &Window) -> bool
-    ensures { IsTrue result ↔ IsWindow window.now }
+fn is_window(window: &Window)
+    requires link { window.now.from ≢ window.now.at }
+    requires rows { HasFewRows (window_ledger window.now) }
+    ensures { IsWindow window.now }
 {
     let _at = window.at.get();
     let _from = window.from.get();
-    window.from != window.at && are_counts(&window.messages) && are_pairs(&window.carried)
+    are_counts(&window.messages);
+    are_pairs(&window.carried);
 }
 
-fn are_states(rows: &StateRows) -> bool
-    ensures { IsTrue result ↔ AreStates rows.now }
+fn are_states(rows: &StateRows)
+    requires { length rows.now < 2 ^ 32 }
+    ensures { AreStates rows.now }
 {
-    let rows = rows.as_slice();
-    states_in_range(rows);
-    rows.len() <= MOST_ROWS
+    states_in_range(rows.as_slice());
 }
 
-fn are_counts(rows: &ActorCounts) -> bool
-    ensures { IsTrue result ↔ AreCounts rows.now }
+fn are_counts(rows: &ActorCounts)
+    requires { length rows.now < 2 ^ 32 }
+    ensures { AreCounts rows.now }
 {
-    let rows = rows.as_slice();
-    counts_in_range(rows);
-    rows.len() <= MOST_ROWS
+    counts_in_range(rows.as_slice());
 }
 
-fn are_pairs(rows: &PairCounts) -> bool
-    ensures { IsTrue result ↔ ArePairs rows.now }
+fn are_pairs(rows: &PairCounts)
+    requires { length rows.now < 2 ^ 32 }
+    ensures { ArePairs rows.now }
 {
-    let rows = rows.as_slice();
-    pairs_in_range(rows);
-    rows.len() <= MOST_ROWS
+    pairs_in_range(rows.as_slice());
 }
 
 /// The numbers of the rows are in range, as the readers of their actors say.

@@ -1,7 +1,7 @@
 use Rattle.std.proofs.Common.{arith, rules, ◌∙◌}
 use Rattle.collector.specs.Refusals.{read_as}
 use Rattle.node_collectors.proofs.BulletinLemmas.{none-refused}
-use Rattle.node_collectors.proofs.StandLemmas.{hand-inside, hands, row-at}
+use Rattle.node_collectors.proofs.StandLemmas.{hand-inside, hand-short, hands, row-at}
 use Rattle.node_collectors.proofs.collectors.NodeCollectors.hand.Goals as goal
 
 pub take-requires-clause-origin : goal.take-requires-clause-origin
@@ -11,6 +11,11 @@ take-requires-clause-origin c =
     let at = row-at w.cluster _ c.args.self.now c.self.inside.rows.items c.get.result c.args.to (search rules) c.get.ensures.number c.requires.stand c.index_mut.result.now inside.0 c.index_mut.ensures.value in
     let nodes = at.fed.nodes in
     omega (arith, inside.1, nodes)
+
+pub take-requires-clause-number : goal.take-requires-clause-number
+take-requires-clause-number c =
+    let w = c.args.world.now in
+    hand-short w.cluster w.past c.args.to c.args.origin c.args.number c.requires.last c.is_lawful.ensures.within
 
 pub want_of-requires : goal.want_of-requires
 want_of-requires c =

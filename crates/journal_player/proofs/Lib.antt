@@ -1,0 +1,4 @@
+pub mod LinesLemmas
+pub mod HeaderLaws
+pub mod DueLines
+pub mod Replaying

@@ -1,0 +1,11 @@
+pub mod Counts
+pub mod Gifts
+pub mod LiveMessages
+pub mod LogFacts
+pub mod MailFacts
+pub mod Moments
+pub mod Owners
+pub mod Pruning
+pub mod QuietPoints
+pub mod QuietSets
+pub mod Steps
