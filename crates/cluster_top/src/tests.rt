@@ -18,10 +18,6 @@ const DROPPED_CHILD_REPORT: &str =
 const NO_OWN_ENTRY: &str =
     "crgc 1 nodes 1\nseed 0\nwake 0.0\nspawn 0.0\nflush 0.1\npublish 0\nhand 0 0 0\nsweep 0";
 
-const NO_OWN_ENTRY_REPORT: &str =
-    "crgc 1 nodes 1\nseed 0\nwake 0.0\nspawn 0.0\nflush 0.1\npublish 0\nhand 0 0 0\n\
-     sweep 0\ncut 0 1 lost\nend events 7 stopped 0\n";
-
 const OUT_OF_ORDER: &str =
     "crgc 1 nodes 1\nseed 0\nflush 0.0\npublish 0\nwake 0.0\nflush 0.0\npublish 0\nrest 0.0\n\
      flush 0.0\npublish 0\nhand 0 0 2\nsweep 0\nhand 0 0 0\nhand 0 0 0\nsweep 0\nhand 0 0 1\nsweep 0\n";
@@ -30,8 +26,6 @@ const OUT_OF_ORDER_REPORT: &str =
     "crgc 1 nodes 1\nseed 0\nflush 0.0\npublish 0\nwake 0.0\nflush 0.0\npublish 0\n\
      rest 0.0\nflush 0.0\npublish 0\nhand 0 0 2\nsweep 0\ncut 0 0 lost\nhand 0 0 0\nhand 0 0 0\nsweep 0\n\
      cut 0 1 lost\nhand 0 0 1\nsweep 0\ncut 0 3 lost\nend events 16 stopped 0\n";
-
-const HEADER_ALONE_REPORT: &str = "crgc 1 nodes 1\nend events 0 stopped 0\n";
 
 const CYCLE_OVER_TWO_NODES: &str =
     "crgc 1 nodes 2\nseed 0\nseed 1\ntie 0.0 1.0\nwake 0.0\nspawn 0.0\nwake 1.0\nspawn 1.0\n\
@@ -55,26 +49,11 @@ const CRASH_AFTER_18_EVENTS: &str =
      drop 1.0 0.1\ndrop 1.0 1.1\nrest 1.0\ndrop 0.0 0.1\nrest 0.0\ncrash 1\nremove 0 1\nflush 0.0\n\
      flush 0.1\npublish 0\nhand 0 0 0\nhand 0 0 1\nsweep 0\n";
 
-const CRASH_AFTER_18_EVENTS_REPORT: &str =
-    "crgc 1 nodes 2\nseed 0\nseed 1\ntie 0.0 1.0\nwake 0.0\nspawn 0.0\nwake 1.0\nspawn 1.0\n\
-     send 0.0 1.0 0.1\nrest 1.0\nadmit 0 1 0\ntake 1.0\nsend 1.0 0.1 1.1\nsend 1.0 1.1 0.1\n\
-     drop 1.0 0.1\ndrop 1.0 1.1\nrest 1.0\ndrop 0.0 0.1\nrest 0.0\ncrash 1\nremove 0 1\nflush 0.0\n\
-     flush 0.1\npublish 0\nhand 0 0 0\nhand 0 0 1\nsweep 0\ncut 0 2 0 lost 1\n\
-     stop 0.1 by 0 received 0 told 0 admitted 0 owners 0.1\nend events 26 stopped 1\n";
-
 const CRASH_AFTER_21_EVENTS: &str =
     "crgc 1 nodes 2\nseed 0\nseed 1\ntie 0.0 1.0\nwake 0.0\nspawn 0.0\nwake 1.0\nspawn 1.0\n\
      send 0.0 1.0 0.1\nrest 1.0\nadmit 0 1 0\ntake 1.0\nsend 1.0 0.1 1.1\nsend 1.0 1.1 0.1\n\
      drop 1.0 0.1\ndrop 1.0 1.1\nrest 1.0\ndrop 0.0 0.1\nrest 0.0\nadmit 1 0 0\ntake 0.1\nrest 0.1\n\
      crash 1\nremove 0 1\nflush 0.0\nflush 0.1\npublish 0\nhand 0 0 0\nhand 0 0 1\nsweep 0\n";
-
-const CRASH_AFTER_21_EVENTS_REPORT: &str =
-    "crgc 1 nodes 2\nseed 0\nseed 1\ntie 0.0 1.0\nwake 0.0\nspawn 0.0\nwake 1.0\nspawn 1.0\n\
-     send 0.0 1.0 0.1\nrest 1.0\nadmit 0 1 0\ntake 1.0\nsend 1.0 0.1 1.1\nsend 1.0 1.1 0.1\n\
-     drop 1.0 0.1\ndrop 1.0 1.1\nrest 1.0\ndrop 0.0 0.1\nrest 0.0\nadmit 1 0 0\ntake 0.1\nrest 0.1\n\
-     crash 1\nremove 0 1\nflush 0.0\nflush 0.1\npublish 0\nhand 0 0 0\nhand 0 0 1\nsweep 0\n\
-     cut 0 2 0 lost 1\nstop 0.1 by 0 received 1 told 0 admitted 1 owners 0.1\n\
-     end events 29 stopped 1\n";
 
 const BRIEF_REPORT: &str = "crgc 1 nodes 1\nnode 0 born 2 stopped 1\ntotal born 2 stopped 1\n";
 
@@ -106,25 +85,46 @@ fn ended(alloc: Global, words: &[&str], input: &str) -> Result<(Status, Vec<u8>)
 }
 
 #[test]
-fn journals_are_played(rt: HostRuntime) -> Result<(), Fail> {
+fn what_the_last_event_makes_due_is_told_last(rt: HostRuntime) -> Result<(), Fail> {
     let cases = [
-        ("crgc 1 nodes 1\n", HEADER_ALONE_REPORT),
-        (DROPPED_CHILD, DROPPED_CHILD_REPORT),
-        (DROPPED_CHILD_REPORT, DROPPED_CHILD_REPORT),
-        (NO_OWN_ENTRY, NO_OWN_ENTRY_REPORT),
-        (OUT_OF_ORDER, OUT_OF_ORDER_REPORT),
-        (CYCLE_OVER_TWO_NODES, CYCLE_OVER_TWO_NODES_REPORT),
-        (CRASH_AFTER_18_EVENTS, CRASH_AFTER_18_EVENTS_REPORT),
-        (CRASH_AFTER_21_EVENTS, CRASH_AFTER_21_EVENTS_REPORT),
+        ("crgc 1 nodes 1\n", "end events 0 stopped 0\n"),
+        (DROPPED_CHILD_REPORT, ""),
+        (NO_OWN_ENTRY, "\ncut 0 1 lost\nend events 7 stopped 0\n"),
+        (
+            CRASH_AFTER_18_EVENTS,
+            "cut 0 2 0 lost 1\nstop 0.1 by 0 received 0 told 0 admitted 0 owners 0.1\n\
+             end events 26 stopped 1\n",
+        ),
+        (
+            CRASH_AFTER_21_EVENTS,
+            "cut 0 2 0 lost 1\nstop 0.1 by 0 received 1 told 0 admitted 1 owners 0.1\n\
+             end events 29 stopped 1\n",
+        ),
     ];
-    for (input, report) in cases {
+    for (input, more) in cases {
         let (status, written) = ended(rt.alloc(), &["play"], input)?;
+        let mut report = input.as_bytes().to_vec(rt.alloc())?;
+        report.extend_from_slice(more.as_bytes())?;
+        assert_eq!(rt; status, Status::Done);
+        assert_eq!(rt; written.as_slice(), report.as_slice());
+    }
+    Ok(())
+}
+
+#[test]
+fn each_sweep_is_told_where_it_comes_and_in_brief_in_numbers(rt: HostRuntime) -> Result<(), Fail> {
+    let full = ["play"].as_slice();
+    let brief = ["play", "--brief"].as_slice();
+    let cases = [
+        (full, OUT_OF_ORDER, OUT_OF_ORDER_REPORT),
+        (full, CYCLE_OVER_TWO_NODES, CYCLE_OVER_TWO_NODES_REPORT),
+        (brief, DROPPED_CHILD, BRIEF_REPORT),
+    ];
+    for (words, input, report) in cases {
+        let (status, written) = ended(rt.alloc(), words, input)?;
         assert_eq!(rt; status, Status::Done);
         assert_eq!(rt; written.as_slice(), report.as_bytes());
     }
-    let (status, written) = ended(rt.alloc(), &["play", "--brief"], DROPPED_CHILD)?;
-    assert_eq!(rt; status, Status::Done);
-    assert_eq!(rt; written.as_slice(), BRIEF_REPORT.as_bytes());
     Ok(())
 }
 
