@@ -1,53 +1,34 @@
 //! Worked histories, with ample memory: what is read after each event.
-ghost use Rattle.true_config.specs.Steps.{MayFollow};
+ghost use Rattle.std.specs.Prelude.{◌≡◌, false, true};
+ghost use Rattle.true_config.specs.Applying.{CarriesFew, is_sweep};
 
 use crate::World;
+use crate::applied::Applied;
 use crgc_ids::{ActorId, NodeId};
 use history_model::{Event, Rule};
-use std::process::Abort;
 use std::test::Fail;
 
-/// The event follows, if it is none of a message and no sweep.
-fn change(world: &mut World, event: Event) -> Result<(), Fail>
-    requires { MayFollow event world.old }
+/// Whether the event is no sweep, and sends at most 16 references.
+fn may_apply(event: &Event) -> bool
+    ensures no_sweep { result ≡ true → is_sweep event.now ≡ false }
+    ensures few { result ≡ true → CarriesFew event.now }
 {
     match event {
-        Event::Seed { node } => {
-            world.seed(node)?;
-        }
-        Event::Spawn { parent } => {
-            world.spawn(parent)?;
-        }
-        Event::Take { actor } => {
-            world.take(actor)?;
-        }
-        Event::Tie { owner, target } => world.tie(owner, target)?,
-        Event::Wake { actor } => world.wake(actor)?,
-        Event::Drop { actor, target } => world.drop_reference(actor, target)?,
-        Event::Retire { actor } => world.retire(actor)?,
-        Event::Rest { actor } => world.rest(actor)?,
-        Event::Flush { actor } => world.flush(actor)?,
-        Event::Publish { node } => world.publish(node)?,
-        Event::Window { at, from } => world.window(at, from)?,
-        Event::Lose { from, at, number } => world.lose(from, at, number)?,
-        Event::Repeat { from, at, number } => world.repeat(from, at, number)?,
-        Event::Crash { node } => world.crash(node)?,
-        Event::Remove { at, gone } => world.remove(at, gone)?,
-        Event::Hand { to, origin, number } => world.hand(to, origin, number)?,
-        Event::Send { .. } | Event::Admit { .. } | Event::Sweep { .. } => {
-            return Err(Fail::new("another form"));
-        }
+        Event::Sweep { .. } => false,
+        Event::Send { refs, .. } => refs.len() <= 16,
+        _ => true,
     }
-    Ok(())
 }
 
-/// The event follows, which no rule refuses and which passes no limit.
-fn follow(rt: &impl Abort, world: &mut World, event: Event) -> Result<(), Fail> {
-    let refused = world.refusal(&event);
-    assert!(rt; refused.is_none(), "{refused:?}");
-    let limit = world.limit(&event)?;
-    assert!(rt; limit.is_none());
-    change(world, event)
+/// The event follows, which nothing hinders.
+fn follow(world: &mut World, event: &Event) -> Result<(), Fail> {
+    if !may_apply(event) {
+        return Err(Fail::new("another form"));
+    }
+    match world.apply(event)? {
+        Applied::Done(_) => Ok(()),
+        _ => Err(Fail::new("hindered")),
+    }
 }
 
 /// How many actors were born on the node, how many are busy in the cluster, the lengths of the node's queue and stream, and the
@@ -104,7 +85,7 @@ fn one_node_works_tells_and_crashes(rt: HostRuntime) -> Result<(), Fail> {
     ]?;
     let mut world = World::new(rt.alloc(), 1, 2)?;
     for (event, want) in events {
-        follow(&rt, &mut world, event)?;
+        follow(&mut world, &event)?;
         assert_eq!(rt; glance(&world, node), want);
     }
     assert_eq!(rt;
@@ -162,7 +143,7 @@ fn a_crashed_node_is_removed(rt: HostRuntime) -> Result<(), Fail> {
     ]?;
     let mut world = World::new(rt.alloc(), 2, 2)?;
     for (event, want) in events {
-        follow(&rt, &mut world, event)?;
+        follow(&mut world, &event)?;
         let seen = (
             world.is_up(gone),
             world.stream_len(at),
