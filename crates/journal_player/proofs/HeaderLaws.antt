@@ -1,5 +1,5 @@
 -- A header line is that of one cluster.
-use Rattle.std.proofs.Common.{◌≡◌, ◌<◌, ◌≤◌, ◌==◌, ◌&&◌, ℕ, Bool, true, false, cond, nat_le, List, [], ◌∷◌, MatchOption, Some, None, Option, refl, sym, ◌∙◌, ap, subst, inl, inr, arith}
+use Rattle.std.proofs.Common.{◌≡◌, ◌≤◌, ◌==◌, ◌&&◌, ℕ, Bool, true, false, cond, nat_le, List, [], ◌∷◌, MatchOption, Some, None, Option, refl, sym, ap, subst, inl, inr, arith}
 use Rattle.std.specs.Fmt.{digits}
 use Rattle.std.specs.List.{find, list_all, range_with_len}
 use Rattle.std.specs.Str.{bytes_eq}

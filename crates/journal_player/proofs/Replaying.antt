@@ -1,5 +1,5 @@
 -- What follows the lines of a journal, from any of them on.
-use Rattle.std.proofs.Common.{◌≡◌, ◌+◌, ℕ, List, [], ◌∷◌, Result, Ok, Err, refl, sym, ◌∙◌, ap}
+use Rattle.std.proofs.Common.{◌≡◌, ◌+◌, ℕ, List, ◌∷◌, Result, Ok, sym, ◌∙◌, ap}
 use Rattle.history_model.specs.Cluster.{Cluster}
 use Rattle.journal_model.specs.Journals.{Fault, Replay, after_line, after_lines, at_line}
 use Rattle.journal_player.specs.Faults.{IsHalt, IsPlayFault, fault_at}

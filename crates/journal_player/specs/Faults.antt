@@ -1,5 +1,5 @@
 -- Why a journal is not played, as the code says it and as the definition says it.
-use Rattle.std.specs.Prelude.{ℕ, ◌≡◌, Result, Ok, Err}
+use Rattle.std.specs.Prelude.{ℕ, ◌≡◌, Result, Err}
 use Rattle.journal_model.specs.declared.lines.LineFault.{LineFault}
 use Rattle.journal_model.specs.declared.lines.LineFault.TheVariants as lines
 use Rattle.journal_model.specs.Journals.{Fault, header, spelling, after_end, rule, limit, differs}

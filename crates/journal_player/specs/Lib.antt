@@ -1,2 +1,4 @@
 pub mod Faults
 pub mod Following
+pub mod Course
+pub mod Collected

@@ -1,12 +1,16 @@
 //! Playing a journal: from its bytes to its report, or to its first fault.
 #![tactic(auto)]
 
+mod course;
 mod due;
 mod fault;
 mod header;
+mod journal;
 mod lines;
+mod player;
 
-pub use due::verdict_line;
-pub use fault::{Cause, Halt, PlayFault};
-pub use header::read_header;
-pub use lines::next_line;
+pub use fault::{Cause, PlayFault};
+pub use journal::play;
+
+#[cfg(test)]
+mod tests;

@@ -1,0 +1,158 @@
+//! Following a journal line by line.
+ghost use Rattle.std.specs.Prelude.{◌≡◌, ◌≤◌, ◌<◌, ◌+◌, ◌^◌, slice_get, Ok, IfOk, IfErr, IfSome};
+ghost use Rattle.history_model.specs.Legal.{IsLegal};
+ghost use Rattle.journal_model.specs.Journals.{after_counts, after_event, after_line, after_said, after_told};
+ghost use Rattle.journal_model.specs.Verdicts.{report_text};
+ghost use Rattle.true_config.specs.Applying.{CarriesFew};
+ghost use Rattle.journal_player.specs.Faults.{IsHalt};
+ghost use Rattle.journal_player.specs.Course.{LineCarriesFew};
+ghost use Rattle.journal_player.specs.Following.{lines_made_due, start};
+
+use crate::course::Course;
+use crate::due::verdict_line;
+use crate::fault::{Cause, Halt};
+use crgc_ids::{NoMemory, Octets};
+use event_lines::{LineRead, read};
+use history_model::Event;
+use journal_model::Line;
+use std::alloc::Global;
+use std::marker::Model;
+
+/// What the lines tell that were read so far. Contracts see the events, the lines that are due, and whether an end line came.
+#[derive(Drop)]
+pub struct Player {
+    course: Course,
+    told: usize,
+    ended: bool,
+}
+
+impl Model for Player {
+    ghost use Rattle.journal_player.specs.Following.{Following, following};
+
+    ghost Value = { Following };
+
+    ghost view = { λ p. following p.course p.told p.ended };
+}
+
+impl Player {
+    /// Before the first event.
+    pub fn begin(alloc: Global, nodes: u8, version: u8) -> Result<Player, NoMemory>
+        requires some_node { 1 ≤ nodes }
+        requires nodes { nodes ≤ 16 }
+        requires some_version { 1 ≤ version }
+        requires version { version ≤ 2 }
+        ensures nodes { IfOk result (λ p. p.cluster.nodes ≡ nodes) }
+        ensures version { IfOk result (λ p. p.cluster.version ≡ version) }
+        ensures replay { IfOk result (λ p. p.replay ≡ start) }
+    {
+        Ok(Player {
+            course: Course::begin(alloc, nodes, version)?,
+            told: 0,
+            ended: false,
+        })
+    }
+
+    /// With the next line, or its fault. An event in the time that the world and the collectors take for it, any other line in
+    /// linear time, and an end line in constant time.
+    pub fn follow(self, alloc: Global, line: &[u8]) -> Result<Player, Halt>
+        ensures cluster { IfOk result (λ p. p.cluster ≡ self.cluster) }
+        ensures ok { IfOk result (λ p. after_line self.cluster self.replay line.now ≡ Ok p.replay) }
+        ensures halt { IfErr result (λ h. IsHalt h (after_line self.cluster self.replay line.now)) }
+    {
+        let said = match read(alloc, line) {
+            Ok(said) => said,
+            Err(LineRead::Fault(fault)) => return Err(Halt::Cause(Cause::from(fault))),
+            Err(LineRead::NoMemory) => return Err(Halt::NoMemory),
+        };
+        if self.ended {
+            return Err(Halt::Cause(Cause::AfterEnd));
+        }
+        self.hear(alloc, line, said)
+    }
+
+    /// With what the next line says.
+    fn hear(self, alloc: Global, line: &[u8], said: Line) -> Result<Player, Halt>
+        requires few { LineCarriesFew said }
+        ensures cluster { IfOk result (λ p. p.cluster ≡ self.cluster) }
+        ensures ok { IfOk result (λ p. after_said self.cluster self.replay line.now said ≡ Ok p.replay) }
+        ensures halt { IfErr result (λ h. IsHalt h (after_said self.cluster self.replay line.now said)) }
+    {
+        match said {
+            Line::Event(event) => self.happen(event),
+            Line::Cut { .. } => self.repeat(alloc, line),
+            Line::Stop { .. } => self.repeat(alloc, line),
+            Line::End { events, stopped } => self.end(events, stopped),
+        }
+    }
+
+    /// With an event, after which only the lines of its verdict are due.
+    fn happen(self, event: Event) -> Result<Player, Halt>
+        requires few { CarriesFew event }
+        ensures cluster { IfOk result (λ p. p.cluster ≡ self.cluster) }
+        ensures ok { IfOk result (λ p. after_event self.cluster self.replay event ≡ Ok p.replay) }
+        ensures halt { IfErr result (λ h. IsHalt h (after_event self.cluster self.replay event)) }
+    {
+        match self.course.follow(event) {
+            Ok(course) => Ok(Player {
+                course,
+                told: 0,
+                ended: false,
+            }),
+            Err(halt) => Err(halt),
+        }
+    }
+
+    /// With a line that is the one that is due.
+    fn repeat(self, alloc: Global, line: &[u8]) -> Result<Player, Halt>
+        ensures cluster { IfOk result (λ p. p.cluster ≡ self.cluster) }
+        ensures ok { IfOk result (λ p. after_told self.replay self.replay.due line.now ≡ Ok p.replay) }
+        ensures halt { IfErr result (λ h. IsHalt h (after_told self.replay self.replay.due line.now)) }
+    {
+        let Some(due) = due_line(alloc, &self.course, self.told)? else {
+            return Err(Halt::Cause(Cause::Differs));
+        };
+        if due.as_slice() == line {
+            return Ok(Player {
+                course: self.course,
+                told: self.told + 1,
+                ended: self.ended,
+            });
+        }
+        Err(Halt::Cause(Cause::Differs))
+    }
+
+    /// With an end line that has the counts so far.
+    fn end(self, events: u32, stopped: u32) -> Result<Player, Halt>
+        ensures cluster { IfOk result (λ p. p.cluster ≡ self.cluster) }
+        ensures ok { IfOk result (λ p. after_counts self.cluster self.replay events stopped ≡ Ok p.replay) }
+        ensures halt { IfErr result (λ h. IsHalt h (after_counts self.cluster self.replay events stopped)) }
+    {
+        if events as u64 != self.course.len() || stopped as u64 != self.course.stopped() {
+            return Err(Halt::Cause(Cause::Differs));
+        }
+        Ok(Player {
+            course: self.course,
+            told: self.told,
+            ended: true,
+        })
+    }
+
+    /// The report, in brief or in full. Linear in the events, the verdicts and the text.
+    pub fn report(&self, alloc: Global, brief: bool) -> Result<Vec<u8>, NoMemory>
+        ensures text { IfOk result (λ text. text.items ≡ report_text self.now.cluster self.now.replay.past brief) }
+        ensures legal { IsLegal self.now.cluster self.now.replay.past }
+    {
+        self.course.report(alloc, brief)
+    }
+}
+
+/// The line that is due after so many of those that the last event made due; None exactly where none is. Linear in the line.
+fn due_line(alloc: Global, course: &Course, told: usize) -> Result<Option<Octets>, NoMemory>
+    ensures line { IfOk result (λ line. line ≡ slice_get (lines_made_due course.now.cluster course.now.past) told) }
+    ensures room { IfOk result (λ line. IfSome line (λ _. told + 1 < 2 ^ 64)) }
+{
+    match course.last_verdict() {
+        Some(verdict) => verdict_line(alloc, course.nodes(), verdict, told),
+        None => Ok(None),
+    }
+}
