@@ -1,4 +1,3 @@
-pub mod Journal
-pub mod Followed
-pub mod Collected
+pub mod Words
+pub mod Refusals
 pub mod Outcome

@@ -1,23 +1,18 @@
 -- What one call of the program does: what it came to, and what it wrote.
-use Rattle.std.specs.Prelude.{ℕ, ◌≡◌, ◌<◌, ◌⊎◌, List, [], ◌∷◌, Option, length, take, codes}
+use Rattle.std.specs.Prelude.{ℕ, ◌≡◌, ◌<◌, ◌⊎◌, Bool, List, Option, Ok, Err, length, take, codes}
 use Rattle.std.specs.Io.KnownBytes.{Appends, IsAtEnd}
 use Rattle.crgc_io.specs.Fault.{CountRose}
 use Rattle.crgc_io.specs.Taken.{Takes}
-use Rattle.history_model.specs.declared.events.Event.{Event}
-use Rattle.history_model.specs.Cluster.{Cluster}
+use Rattle.history_model.specs.Story.{Story}
+use Rattle.journal_player.specs.Collected.{IsRightlyCollected}
+use Rattle.journal_model.specs.Journals.{journal_of, limit}
 use Rattle.journal_model.specs.Lines.{line_of}
-use Rattle.journal_model.specs.Report.{report_of}
+use Rattle.journal_model.specs.Verdicts.{report_text}
+use Rattle.journal_player.specs.Faults.{fault_of}
 use Rattle.cluster_top.specs.declared.status.Status.{Status}
-use Rattle.cluster_top.specs.declared.status.Status.TheVariants.{Done, Usage, ReadFault, WriteFault, Journal, NoMemory}
-use Rattle.cluster_top.specs.declared.status.Cause.TheVariants.{Unbuilt}
-use Rattle.cluster_top.specs.declared.refusal.Refusal.{Refusal}
-use Rattle.cluster_top.specs.declared.refusal.Refusal.TheVariants.{Usage as NoCommand, ReadFault as ReadStopped, Unbuilt as NotPlayed, NoMemory as OutOfMemory}
-use Rattle.cluster_top.specs.Collected.{IsRightlyCollected}
-use Rattle.cluster_top.specs.Journal.{IsJournal, IsNoJournal}
-
--- the words are a command: the one word `play`
-abbrev pub IsCommand : List (List ℕ) → Type 0
-IsCommand words = words ≡ codes "play" ∷ []
+use Rattle.cluster_top.specs.declared.status.Status.TheVariants.{Done, Usage, ReadFault, WriteFault, Limit, Journal, NoMemory}
+use Rattle.cluster_top.specs.Refusals.{journal_line, limit_line}
+use Rattle.cluster_top.specs.Words.{IsCommand, play_words}
 
 -- what the source gave in the call
 abbrev pub HasTaken : {S : Type 0} → (left given : S → Option (List ℕ)) (old new : S) → (List ℕ → Type 0) → Type 0
@@ -26,18 +21,22 @@ HasTaken left given old new P = (taken : List ℕ) × Takes left given old new t
 -- what the call came to before it wrote, with the text that it then had to write; no read failed, but at `ReadFault`
 abbrev pub CameTo : {S : Type 0} → (left given : S → Option (List ℕ)) (faults : S → ℕ) (words : List (List ℕ)) (old new : S) → Status → List ℕ → Type 0
 CameTo left given faults words old new Done text =
-    IsCommand words × IsAtEnd (left new) × (faults new ≡ faults old)
-    × HasTaken left given old new (λ taken. (cl : Cluster) × (h : List Event) × IsJournal cl h taken × IsRightlyCollected cl h × (text ≡ report_of cl h))
+    (brief : Bool) × (words ≡ play_words brief) × IsAtEnd (left new) × (faults new ≡ faults old)
+    × HasTaken left given old new (λ taken. (s : Story) × (journal_of taken ≡ Ok s) × IsRightlyCollected s.cluster s.past × (text ≡ report_text s.cluster s.past brief))
 CameTo left given faults words old new Usage text =
     (¬ IsCommand words) × (new ≡ old) × (text ≡ line_of (codes "fault 2 usage"))
 CameTo left given faults words old new ReadFault text =
     IsCommand words × CountRose (faults old) (faults new) × HasTaken left given old new (λ taken. length taken < 16777217)
     × (text ≡ line_of (codes "fault 4 read"))
 CameTo left given faults words old new (WriteFault written) text = ⊥
+CameTo left given faults words old new (Limit which) text =
+    IsCommand words × (faults new ≡ faults old)
+    × HasTaken left given old new (λ taken. ((length taken ≡ 16777217) ⊎ IsAtEnd (left new)) × ((line : ℕ) × (journal_of taken ≡ Err (line, limit which))))
+    × (text ≡ limit_line which)
 CameTo left given faults words old new (Journal line cause) text =
-    IsCommand words × (line ≡ 0) × (faults new ≡ faults old)
-    × HasTaken left given old new (λ taken. (length taken ≡ 16777217) ⊎ (IsAtEnd (left new) × IsNoJournal taken))
-    × (text ≡ line_of (codes "fault 7 line 0 unbuilt"))
+    IsCommand words × IsAtEnd (left new) × (faults new ≡ faults old)
+    × HasTaken left given old new (λ taken. journal_of taken ≡ Err (line, fault_of cause))
+    × (text ≡ journal_line line cause)
 CameTo left given faults words old new NoMemory text =
     IsCommand words × (faults new ≡ faults old) × HasTaken left given old new (λ taken. length taken < 16777218)
     × (text ≡ line_of (codes "fault 8 memory"))
@@ -61,19 +60,6 @@ exit_number_of Done = 0
 exit_number_of Usage = 2
 exit_number_of ReadFault = 4
 exit_number_of (WriteFault written) = 5
+exit_number_of (Limit which) = 6
 exit_number_of (Journal line cause) = 7
 exit_number_of NoMemory = 8
-
--- the status of a refusal
-abbrev pub status_of : Refusal → Status
-status_of NoCommand = Usage
-status_of ReadStopped = ReadFault
-status_of NotPlayed = Journal 0 Unbuilt
-status_of OutOfMemory = NoMemory
-
--- the line that is written for it
-abbrev pub line_for : Refusal → List ℕ
-line_for NoCommand = line_of (codes "fault 2 usage")
-line_for ReadStopped = line_of (codes "fault 4 read")
-line_for NotPlayed = line_of (codes "fault 7 line 0 unbuilt")
-line_for OutOfMemory = line_of (codes "fault 8 memory")

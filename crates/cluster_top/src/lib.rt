@@ -1,15 +1,15 @@
 //! The program as one call over any source and sink.
 #![tactic(auto)]
 
-mod followed;
-mod lines;
-mod play;
-mod play_fault;
+mod causes;
 mod refusal;
 mod status;
 #[cfg(test)]
 mod tests;
 mod top;
+mod words;
 
-pub use status::{Cause, Status};
+pub use crgc_ids::Which;
+pub use journal_player::Cause;
+pub use status::Status;
 pub use top::{crgc_top, plain_top, wants_workers};

@@ -2,6 +2,9 @@
 ghost use Rattle.std.specs.Prelude.{◌≡◌};
 ghost use Rattle.cluster_top.specs.Outcome.{exit_number_of};
 
+use crgc_ids::Which;
+use journal_player::Cause;
+
 /// How a call of the program ends.
 #[derive(Clone, Copy, PartialEq, Eq, Debug)]
 pub enum Status {
@@ -13,17 +16,12 @@ pub enum Status {
     ReadFault,
     /// A write failed, after so many bytes. Exit 5.
     WriteFault { written: u64 },
-    /// The journal is refused, at this line. Exit 7.
+    /// The journal passes this limit, and no line before is at fault. Exit 6.
+    Limit(Which),
+    /// The journal's first faulty line, counted from 1, and what is wrong with it. Exit 7.
     Journal { line: u64, cause: Cause },
     /// The allocator gave no memory. Exit 8.
     NoMemory,
-}
-
-/// Why a journal is refused.
-#[derive(Clone, Copy, PartialEq, Eq, Debug)]
-pub enum Cause {
-    /// It is too long, or no journal of one node in the nine forms that are built, or not legal, or it passes a limit.
-    Unbuilt,
 }
 
 impl Status {
@@ -36,6 +34,7 @@ impl Status {
             Status::Usage => 2,
             Status::ReadFault => 4,
             Status::WriteFault { .. } => 5,
+            Status::Limit(_) => 6,
             Status::Journal { .. } => 7,
             Status::NoMemory => 8,
         }

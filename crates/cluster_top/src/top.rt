@@ -1,15 +1,19 @@
 //! The top call: words, source and sink in, a status out.
-ghost use Rattle.std.specs.Prelude.{◌≡◌, ◌≤◌, ◌↔◌, false, Err, IfOk, IfErr, map, string_bytes, IsTrue, codes, [], ◌∷◌};
-ghost use Rattle.std.specs.Io.KnownBytes.{IsAtEnd};
+ghost use Rattle.std.specs.Prelude.{◌≡◌, ◌≤◌, false, Ok, IfOk, IfErr, map, string_bytes};
 ghost use Rattle.history_model.specs.Story.{Story};
-ghost use Rattle.cluster_top.specs.Outcome.{CameTo, IsCommand, IsOutcome, IsWritten, status_of, line_for};
+ghost use Rattle.journal_player.specs.Collected.{IsRightlyCollected};
+ghost use Rattle.journal_model.specs.Journals.{journal_of};
+ghost use Rattle.journal_model.specs.Verdicts.{report_text};
+ghost use Rattle.cluster_top.specs.Outcome.{CameTo, IsOutcome, IsWritten};
+ghost use Rattle.cluster_top.specs.Refusals.{IsToldBy, line_for, status_of};
 
-use crate::play::play;
-use crate::play_fault::PlayFault;
 use crate::refusal::Refusal;
 use crate::status::Status;
+use crate::words::asks_brief;
+use crgc_ids::Which;
 use crgc_io::{Gate, ReadAll, Sink, Source, WriteFault, read_all, write_all};
 use history_model::History;
+use journal_player::play;
 use std::alloc::Global;
 use std::sync::Wait;
 use std::thread::Threads;
@@ -70,28 +74,26 @@ fn answer<S: Source>(alloc: Global, words: &[String], source: &mut S) -> Result<
         source.old source.new (status_of r) (line_for r)) }
     ensures never_falls { S.faults source.old ≤ S.faults source.new }
 {
-    if !is_command(words) {
+    let Some(brief) = asks_brief(words) else {
         return Err(Refusal::Usage);
-    }
+    };
     match read_all(alloc, source, INPUT_LIMIT) {
-        Ok(text) => match play(alloc, text.as_slice()) {
-            Ok(report) => Ok(report),
-            Err(PlayFault::Unbuilt) => Err(Refusal::Unbuilt),
-            Err(PlayFault::NoMemory) => Err(Refusal::NoMemory),
-        },
+        Ok(text) => played(alloc, text.as_slice(), brief),
         Err(ReadAll::ReadFault) => Err(Refusal::ReadFault),
-        Err(ReadAll::TooLong) => Err(Refusal::Unbuilt),
+        Err(ReadAll::TooLong) => Err(Refusal::Limit(Which::Input)),
         Err(ReadAll::NoMemory) => Err(Refusal::NoMemory),
     }
 }
 
-// Whether the words are the one word `play`.
-fn is_command(words: &[String]) -> bool
-    ensures { IsTrue result ↔ IsCommand (map string_bytes words.now) }
+// The report of the journal, in brief or in full, or why there is none.
+fn played(alloc: Global, text: &[u8], brief: bool) -> Result<Vec<u8>, Refusal>
+    ensures report { IfOk result (λ v. (s : Story) × (journal_of text.now ≡ Ok s)
+        × IsRightlyCollected s.cluster s.past × (v.items ≡ report_text s.cluster s.past brief)) }
+    ensures refusal { IfErr result (λ r. IsToldBy r (journal_of text.now)) }
 {
-    match words {
-        [word] => word.as_bytes() == b"play".as_slice(),
-        _ => false,
+    match play(alloc, text, brief) {
+        Ok(report) => Ok(report),
+        Err(fault) => Err(Refusal::of(alloc, fault)),
     }
 }
 

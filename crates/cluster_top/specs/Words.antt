@@ -1,0 +1,56 @@
+-- The words of commands, and those by which a fault line names what is wrong.
+use Rattle.std.specs.Prelude.{ℕ, ◌≡◌, Bool, true, false, List, [], ◌∷◌, codes}
+use Rattle.crgc_ids.specs.declared.Which.{Which}
+use Rattle.crgc_ids.specs.declared.Which.TheVariants.{Input, Events, Actors, Delta}
+use Rattle.history_model.specs.declared.events.Rule.{Rule}
+use Rattle.history_model.specs.declared.events.Rule.TheVariants as rules
+use Rattle.journal_player.specs.declared.fault.Cause.{Cause}
+use Rattle.journal_player.specs.declared.fault.Cause.TheVariants as causes
+
+-- the words that ask for the report of a journal, in full or in brief
+abbrev pub play_words : Bool → List (List ℕ)
+play_words false = codes "play" ∷ []
+play_words true = codes "play" ∷ codes "--brief" ∷ []
+
+-- the words are a command
+abbrev pub IsCommand : List (List ℕ) → Type 0
+IsCommand words = (brief : Bool) × (words ≡ play_words brief)
+
+-- the word of a limit
+abbrev pub limit_word : Which → List ℕ
+limit_word Input = codes "input"
+limit_word Events = codes "events"
+limit_word Actors = codes "actors"
+limit_word Delta = codes "delta"
+
+-- the word of a rule of legality
+abbrev pub rule_word : Rule → List ℕ
+rule_word rules.NoNode = codes "no-node"
+rule_word rules.NoActor = codes "no-actor"
+rule_word rules.Down = codes "down"
+rule_word rules.SameActor = codes "same-actor"
+rule_word rules.SameNode = codes "same-node"
+rule_word rules.NotRoot = codes "not-root"
+rule_word rules.Busy = codes "busy"
+rule_word rules.Idle = codes "idle"
+rule_word rules.NoMail = codes "no-mail"
+rule_word rules.NotHeld = codes "not-held"
+rule_word rules.Supervisor = codes "supervisor"
+rule_word rules.Blank = codes "blank"
+rule_word rules.EmptyQueue = codes "empty-queue"
+rule_word rules.Closed = codes "closed"
+rule_word rules.NothingAdmitted = codes "nothing-admitted"
+rule_word rules.NotOnLink = codes "not-on-link"
+rule_word rules.NotCrashed = codes "not-crashed"
+rule_word rules.Removed = codes "removed"
+rule_word rules.NoBulletin = codes "no-bulletin"
+
+-- the word of what is wrong with a line of a journal
+abbrev pub cause_word : Cause → List ℕ
+cause_word causes.Header = codes "header"
+cause_word causes.Word = codes "word"
+cause_word causes.Field = codes "field"
+cause_word causes.Extra = codes "extra"
+cause_word causes.Differs = codes "differs"
+cause_word causes.AfterEnd = codes "after-end"
+cause_word (causes.Rule broken) = rule_word broken
