@@ -49,7 +49,8 @@ IsWritten held faults old new reason text status =
     × Appends (held old) (held new) (take written text) × CountRose (faults old) (faults new))
 
 -- the call came to something, and wrote it
-abbrev pub IsOutcome : {S K : Type 0} → (left given : S → Option (List ℕ)) (reads : S → ℕ) (held : K → Option (List ℕ)) (writes : K → ℕ) (words : List (List ℕ)) (source source' : S) (sink sink' : K) → Status → Type 0
+abbrev pub IsOutcome : {S K : Type 0} → (left given : S → Option (List ℕ)) (reads : S → ℕ) (held : K → Option (List ℕ)) (writes : K → ℕ)
+    (words : List (List ℕ)) (source source' : S) (sink sink' : K) → Status → Type 0
 IsOutcome left given reads held writes words source source' sink sink' status =
     (reason : Status) × (text : List ℕ) × CameTo left given reads words source source' reason text
     × IsWritten held writes sink sink' reason text status
