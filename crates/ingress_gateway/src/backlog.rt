@@ -28,7 +28,11 @@ impl Model for Backlog {
 
     ghost Value = { Pending };
 
-    ghost view = { λ b. record { messages = recipients b.messages.items; carried = pairs b.carried.items; room = min (vec_capacity b.messages - vec_len b.messages) (min (vec_capacity b.carried - vec_len b.carried) b.names.room) } };
+    ghost view = { λ b. record {
+      messages = recipients b.messages.items;
+      carried = pairs b.carried.items;
+      room = min (vec_capacity b.messages - vec_len b.messages) (min (vec_capacity b.carried - vec_len b.carried) b.names.room);
+    } };
 
     ghost invariant = { λ b. IsKept b.messages.items b.carried.items b.names };
 }

@@ -36,7 +36,8 @@ pub trait Object {
         ensures { Answers fits stands pass op result state.old state.new };
 
     // What fits still fits after further calls of other passes.
-    ghost still_fits: { (start : Self.State) (later history : List (Entry Self.Op Self.Reply)) (op : Self.Op) (pass : ℕ) → calls_of pass later ≡ [] → fits start history op pass → fits start (later ++ history) op pass };
+    ghost still_fits: { (start : Self.State) (later history : List (Entry Self.Op Self.Reply)) (op : Self.Op) (pass : ℕ)
+        → calls_of pass later ≡ [] → fits start history op pass → fits start (later ++ history) op pass };
 
     // A state stands for no calls from itself.
     ghost stands_first: { (start : Self.State) → stands start [] start };
