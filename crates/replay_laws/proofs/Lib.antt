@@ -1,0 +1,5 @@
+pub mod TextLines
+pub mod Headers
+pub mod LimitLemmas
+pub mod PrintedVerdicts
+pub mod ReadingOn

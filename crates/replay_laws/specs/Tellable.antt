@@ -6,13 +6,16 @@ use Rattle.history_model.specs.Legal.{IsLegal}
 use Rattle.journal_model.specs.Lines.{AreWithinRanges}
 use Rattle.run_model.specs.Schedule.{IsWithinLimits}
 
--- the cluster has 1 to 16 nodes and a known version, and its history is legal, has its numbers in their ranges, and passes no
--- limit at any of its events
-pub record IsTellable (cl : Cluster) (h : List Event) : Type 0 where
+-- the cluster has 1 to 16 nodes, and its version is 1 or 2
+pub record IsInRange (cl : Cluster) : Type 0 where
   pub some_node : 1 ≤ cl.nodes
   pub nodes : cl.nodes ≤ 16
   pub some_version : 1 ≤ cl.version
   pub version : cl.version ≤ 2
+
+-- the history is legal, its numbers are in their ranges, and it passes no limit at any of its events
+pub record IsTellable (cl : Cluster) (h : List Event) : Type 0 where
+  pub cluster : IsInRange cl
   pub legal : IsLegal cl h
   pub ranges : AreWithinRanges h
   pub limits : IsWithinLimits cl h

@@ -1,0 +1,7 @@
+use Rattle.replay_laws.proofs.a_report_replayed_gives_itself.Goals as goal
+
+pub returns-clause-same : goal.returns-clause-same
+returns-clause-same c = ?
+
+pub returns-clause-itself : goal.returns-clause-itself
+returns-clause-itself c = ?
