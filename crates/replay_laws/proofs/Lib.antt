@@ -3,3 +3,6 @@ pub mod Headers
 pub mod LimitLemmas
 pub mod PrintedVerdicts
 pub mod ReadingOn
+pub mod Telling
+pub mod Reports
+pub mod Replayed
