@@ -1,6 +1,7 @@
 pub mod TextLines
 pub mod Headers
 pub mod LimitLemmas
+pub mod Ranges
 pub mod PrintedVerdicts
 pub mod ReadingOn
 pub mod Telling

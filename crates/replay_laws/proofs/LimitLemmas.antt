@@ -1,13 +1,19 @@
--- How many events and births a history within its limits has.
+-- How many events and births a history within its limits has, and which names.
 use Rattle.std.proofs.Common.{◌≡◌, ◌<◌, ◌≤◌, ◌+◌, ◌==◌, ℕ, Bool, true, false, cond, nat_le, List, [], ◌∷◌, length, Option, Some, None, refl, subst, arith}
+use Rattle.std.proofs.lemmas.Bool.{ltb-true}
 use Rattle.std.proofs.lemmas.Bool.Decides.{nat_tests}
+use Rattle.std.specs.Prelude.{IsTrue}
+use Rattle.crgc_ids.specs.Actor.{Actor, IsActor}
 use Rattle.crgc_ids.specs.declared.Which.{Which}
 use Rattle.crgc_ids.specs.declared.Which.TheVariants.{Actors, Delta, Events}
 use Rattle.history_model.specs.declared.events.Event.{Event}
 use Rattle.history_model.specs.declared.events.Event.TheVariants.{Seed, Spawn}
-use Rattle.history_model.specs.Cluster.{Cluster, births}
+use Rattle.history_model.specs.Cluster.{Cluster, births, is_born}
+use Rattle.history_model.specs.Legal.{IsLegal}
+use Rattle.history_model.proofs.AccountsBirths.{births-on_nodes}
 use Rattle.journal_model.specs.Limits.{limit_passed, passes_actors, passes_delta}
 use Rattle.run_model.specs.Schedule.{IsWithinLimits}
+use Rattle.replay_laws.specs.Tellable.{IsInRange}
 
 -- no limit is passed
 record PassesNone (cl : Cluster) (e : Event) (p : List Event) : Type 0 where
@@ -49,3 +55,9 @@ births-few cl [] within n = omega arith
 births-few cl (Seed m ∷ p) within n = one-more m n p (passes-none cl (Seed m) p within.0).actors (births-few cl p within.1 n)
 births-few cl (Spawn a ∷ p) within n = one-more a.node n p (passes-none cl (Spawn a) p within.0).actors (births-few cl p within.1 n)
 births-few cl (e ∷ p) within n = births-few cl p within.1 n
+
+-- who is born has a name within the limits
+pub born-named : (cl : Cluster) (p : List Event) (a : Actor) → IsInRange cl → IsLegal cl p → IsWithinLimits cl p → IsTrue (is_born a p) → IsActor a
+born-named cl p a range legal within born =
+    let below : a.serial < births a.node p = ltb-true a.serial (births a.node p) born in
+    (omega (arith, births-on_nodes cl p legal a.node (omega (arith, below)), range.nodes), omega (arith, below, births-few cl p within a.node))

@@ -1,9 +1,7 @@
 -- The numbers of a verdict are in the ranges of its lines.
 use Rattle.std.proofs.Common.{◌≡◌, ◌<◌, ◌≤◌, ◌+◌, ◌^◌, ◌==◌, ◌&&◌, ℕ, true, not, List, [], ◌∷◌, length, map, refl, inl, inr, arith}
-use Rattle.std.proofs.lemmas.Bool.{ltb-true}
 use Rattle.std.proofs.lemmas.List.FromFn.{length-map-range_with_len}
 use Rattle.std.specs.List.{AllByRecursion, range_with_len}
-use Rattle.std.specs.Prelude.{IsTrue}
 use Rattle.crgc_ids.specs.Actor.{Actor, IsActor}
 use Rattle.crgc_ids.specs.Members.{IsAmong}
 use Rattle.crgc_ids.specs.Nodes.{nodes_below}
@@ -12,14 +10,13 @@ use Rattle.crgc_ids.proofs.LostNodesLaws.{lost_nodes-lost, lost_nodes-rise}
 use Rattle.crgc_ids.proofs.MembersLaws.{IsAmong-from_filter, all-from_members, all-implied}
 use Rattle.history_model.specs.declared.events.Event.{Event}
 use Rattle.history_model.specs.declared.records.Stop.{Stop}
-use Rattle.history_model.specs.Cluster.{Cluster, births, is_born}
+use Rattle.history_model.specs.Cluster.{Cluster}
 use Rattle.history_model.specs.Facts.{is_received}
 use Rattle.history_model.specs.Folds.{cut_at, final_links, folded, is_lost, lost_of}
 use Rattle.history_model.specs.Graph.{received_count}
 use Rattle.history_model.specs.Legal.{IsLegal}
 use Rattle.history_model.specs.Messages.{is_take_by, takes}
 use Rattle.history_model.specs.Sweeps.{dead_at, is_stopped, stop_of, stopped_by, stops_of}
-use Rattle.history_model.proofs.AccountsBirths.{births-on_nodes}
 use Rattle.history_model.proofs.AccountsNotes.{received-noted}
 use Rattle.history_model.proofs.FoldSumsCounts.{received-told}
 use Rattle.history_model.proofs.FoldSumsDead.{dead-member, dead-owners}
@@ -32,7 +29,7 @@ use Rattle.bulletin_streams.proofs.BoundLemmas.{stream-short}
 use Rattle.evidence_report.proofs.Stopping.{tally-most}
 use Rattle.run_model.specs.Schedule.{IsWithinLimits}
 use Rattle.replay_laws.specs.Tellable.{IsInRange}
-use Rattle.replay_laws.proofs.LimitLemmas.{births-few, events-few}
+use Rattle.replay_laws.proofs.LimitLemmas.{born-named, events-few}
 
 -- ---- the cut
 
@@ -76,12 +73,6 @@ cut-printable cl m p range within node =
     )
 
 -- ---- the stops
-
--- who is born has a name within the limits
-born-named : (cl : Cluster) (p : List Event) (a : Actor) → IsInRange cl → IsLegal cl p → IsWithinLimits cl p → IsTrue (is_born a p) → IsActor a
-born-named cl p a range legal within born =
-    let below : a.serial < births a.node p = ltb-true a.serial (births a.node p) born in
-    (omega (arith, births-on_nodes cl p legal a.node (omega (arith, below)), range.nodes), omega (arith, below, births-few cl p within a.node))
 
 -- no actor took more messages than there are events
 received-few : (cl : Cluster) (m : ℕ) (p : List Event) (a : Actor) → IsLegal cl p → received_count cl (folded cl m p) a ≤ length p
