@@ -5,6 +5,7 @@ ghost use Rattle.history_model.specs.Cluster.{Cluster};
 ghost use Rattle.journal_model.specs.declared.lines.Line.{Line};
 ghost use Rattle.journal_model.specs.declared.lines.LineFault.TheVariants.{Extra, Word};
 ghost use Rattle.journal_model.specs.Fields.{pieces};
+ghost use Rattle.journal_model.specs.Journals.{header_of};
 ghost use Rattle.journal_model.specs.Lines.{IsPrintable, header_line, spelling};
 ghost use Rattle.journal_model.specs.Reading.{is_first_word, read_line};
 
@@ -38,4 +39,11 @@ pub fn words_too_much_follow_a_line()
 pub fn no_line_has_a_line_feed()
     ensures line { (l : Line) → IsPrintable l → AllByRecursion (λ b. b ≢ 10) (spelling l) }
     ensures header { (cl : Cluster) → cl.nodes ≤ 16 → cl.version ≤ 2 → AllByRecursion (λ b. b ≢ 10) (header_line cl) }
+{}
+
+/// A header line is that of one cluster: 1 to 16 nodes, in version 1 or 2.
+pub fn a_header_names_one_cluster()
+    ensures found { (cl : Cluster) → 1 ≤ cl.nodes → cl.nodes ≤ 16 → 1 ≤ cl.version → cl.version ≤ 2 → header_of (header_line cl) ≡ Some cl }
+    ensures only { (line : List ℕ) (cl : Cluster) → header_of line ≡ Some cl
+        → (1 ≤ cl.nodes) × (cl.nodes ≤ 16) × (1 ≤ cl.version) × (cl.version ≤ 2) × (header_line cl ≡ line) }
 {}

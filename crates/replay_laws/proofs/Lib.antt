@@ -1,5 +1,4 @@
 pub mod TextLines
-pub mod Headers
 pub mod LimitLemmas
 pub mod Ranges
 pub mod PrintedVerdicts

@@ -11,10 +11,10 @@ use Rattle.journal_model.specs.Journals.{Fault, after_header, after_lines, heade
 use Rattle.journal_model.specs.Lines.{event_line, header_line, lines_of, spell, end_words, text_of}
 use Rattle.journal_model.specs.Report.{report_lines, stopped_total, told_lines, verdict_lines}
 use Rattle.journal_model.specs.Verdicts.{report_text}
+use Rattle.event_lines.proofs.ClusterHeaders.{header_of-header}
 use Rattle.event_lines.proofs.FreeLaws.{header_line-free}
 use Rattle.evidence_report.proofs.Totals.{births-within, stopped-within}
 use Rattle.replay_laws.specs.Tellable.{IsTellable, IsWithinInput}
-use Rattle.replay_laws.proofs.Headers.{header_of-header}
 use Rattle.replay_laws.proofs.LimitLemmas.{events-few}
 use Rattle.replay_laws.proofs.PrintedVerdicts.{cut-printable, stops-printable}
 use Rattle.replay_laws.proofs.ReadingOn.{AreReadOn, end-read, event-read, read-append, read-free, read-lines, reading, verdict-read}
@@ -70,10 +70,11 @@ journal-short text short =
 -- the report tells its history
 pub report-told : (cl : Cluster) (h : List Event) → IsTellable cl h → IsWithinInput (report_text cl h false) → journal_of (report_text cl h false) ≡ Ok (let s : Story = record { cluster = cl; past = h } in s)
 report-told cl h tellable short =
+    let range = tellable.cluster in
     let rest = after_first cl h in
     let read = report-read cl h tellable in
-    let lines = lines_of-text (header_line cl ∷ rest) (header_line-free cl tellable.cluster.nodes tellable.cluster.version, read-free cl (reading [] [] false) (reading h [] true) rest read) in
+    let lines = lines_of-text (header_line cl ∷ rest) (header_line-free cl range.nodes range.version, read-free cl (reading [] [] false) (reading h [] true) rest read) in
     journal-short (report_text cl h false) short
     ∙ ap journal_lines lines
-    ∙ ap (λ (o : Option Cluster). after_header o rest) (header_of-header cl tellable.cluster)
+    ∙ ap (λ (o : Option Cluster). after_header o rest) (header_of-header cl range.some_node range.nodes range.some_version range.version)
     ∙ ap (told_of cl) (read-lines cl (reading [] [] false) (reading h [] true) rest read 2)

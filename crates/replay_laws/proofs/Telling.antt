@@ -16,10 +16,11 @@ use Rattle.journal_model.specs.Limits.{limit_passed}
 use Rattle.journal_model.specs.Lines.{AreWithinRanges, IsPrintable, IsWithinRanges, lines_of}
 use Rattle.journal_model.specs.Reading.{read_line}
 use Rattle.journal_model.specs.Report.{stopped_total}
+use Rattle.event_lines.proofs.ClusterHeaders.{header_of-cluster}
 use Rattle.event_lines.proofs.LinesLaws.{read-spelling}
+use Rattle.event_lines.proofs.ShapesLaws.{made}
 use Rattle.run_model.specs.Schedule.{IsWithinLimits}
-use Rattle.replay_laws.specs.Tellable.{IsTellable}
-use Rattle.replay_laws.proofs.Headers.{header_of-in_range}
+use Rattle.replay_laws.specs.Tellable.{IsInRange, IsTellable}
 
 -- the history that was read is as a journal's has to be
 record IsReadSo (cl : Cluster) (p : List Event) : Type 0 where
@@ -28,10 +29,6 @@ record IsReadSo (cl : Cluster) (p : List Event) : Type 0 where
   limits : IsWithinLimits cl p
 
 -- ---- one line
-
--- a value that is answered is the one that was made
-made : {A B : Type 0} (P : A → Type 0) (x y : A) → ◌≡◌ {A = Result A B} (Ok x) (Ok y) → P x → P y
-made P x y e h = let same : x ≡ y = cc in subst P same h
 
 module _ (cl : Cluster) (r next : Replay) (so : IsReadSo cl r.past) where
   abbrev Goal : Replay → Type 0
@@ -82,6 +79,11 @@ lines-so cl n r last (line ∷ rest) so is = chosen (λ next. lines-so cl (n + 1
     chosen later (Err fault) reads faulty = absurd (cc)
     chosen later (Ok next) reads goes_on = later next (read-so cl r next so line (read_line line) refl reads) goes_on
 
+header-in_range : (first : List ℕ) (cl : Cluster) → header_of first ≡ Some cl → IsInRange cl
+header-in_range first cl header =
+    let found = header_of-cluster first cl header in
+    record { some_node = found.0; nodes = found.1; some_version = found.2; version = found.3 }
+
 header-so : (first : List ℕ) (rest : List (List ℕ)) (s : Story) (o : Option Cluster) → header_of first ≡ o → after_header o rest ≡ Ok s → IsTellable s.cluster s.past
 header-so first rest s None header is = absurd (cc)
 header-so first rest s (Some cl) header is = chosen (after_lines cl 2 (record { past = []; due = []; ended = false }) rest) refl is
@@ -91,7 +93,7 @@ header-so first rest s (Some cl) header is = chosen (after_lines cl 2 (record { 
     chosen (Ok last) reads told =
         let so = lines-so cl 2 (record { past = []; due = []; ended = false }) last rest (record { legal = tt; ranges = tt; limits = tt }) reads in
         made (λ (t : Story). IsTellable t.cluster t.past) (record { cluster = cl; past = last.past }) s told
-        (record { cluster = header_of-in_range first cl header; legal = so.legal; ranges = so.ranges; limits = so.limits })
+        (record { cluster = header-in_range first cl header; legal = so.legal; ranges = so.ranges; limits = so.limits })
 
 lines_of-so : (ls : List (List ℕ)) (s : Story) → journal_lines ls ≡ Ok s → IsTellable s.cluster s.past
 lines_of-so [] s is = absurd (cc)
