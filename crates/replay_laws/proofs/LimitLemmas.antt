@@ -13,7 +13,7 @@ use Rattle.history_model.specs.Legal.{IsLegal}
 use Rattle.history_model.proofs.AccountsBirths.{births-on_nodes}
 use Rattle.journal_model.specs.Limits.{limit_passed, passes_actors, passes_delta}
 use Rattle.run_model.specs.Schedule.{IsWithinLimits}
-use Rattle.replay_laws.specs.Tellable.{IsInRange}
+use Rattle.replay_laws.specs.Tellable.{IsClusterInRange}
 
 -- no limit is passed
 record PassesNone (cl : Cluster) (e : Event) (p : List Event) : Type 0 where
@@ -57,7 +57,7 @@ births-few cl (Spawn a ∷ p) within n = one-more a.node n p (passes-none cl (Sp
 births-few cl (e ∷ p) within n = births-few cl p within.1 n
 
 -- who is born has a name within the limits
-pub born-named : (cl : Cluster) (p : List Event) (a : Actor) → IsInRange cl → IsLegal cl p → IsWithinLimits cl p → IsTrue (is_born a p) → IsActor a
+pub born-named : (cl : Cluster) (p : List Event) (a : Actor) → IsClusterInRange cl → IsLegal cl p → IsWithinLimits cl p → IsTrue (is_born a p) → IsActor a
 born-named cl p a range legal within born =
     let below : a.serial < births a.node p = ltb-true a.serial (births a.node p) born in
     (omega (arith, births-on_nodes cl p legal a.node (omega (arith, below)), range.nodes), omega (arith, below, births-few cl p within a.node))

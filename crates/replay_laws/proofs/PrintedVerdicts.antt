@@ -1,7 +1,7 @@
 -- The numbers of a verdict are in the ranges of its lines.
-use Rattle.std.proofs.Common.{◌≡◌, ◌<◌, ◌≤◌, ◌+◌, ◌^◌, ◌==◌, ◌&&◌, ℕ, true, not, List, [], ◌∷◌, length, map, refl, inl, inr, arith}
+use Rattle.std.proofs.Common.{◌<◌, ◌≤◌, ◌+◌, ◌==◌, ◌&&◌, ℕ, not, List, [], ◌∷◌, length, map, refl, inl, inr, arith}
 use Rattle.std.proofs.lemmas.List.FromFn.{length-map-range_with_len}
-use Rattle.std.specs.List.{AllByRecursion, range_with_len}
+use Rattle.std.specs.List.{AllByRecursion}
 use Rattle.crgc_ids.specs.Actor.{Actor, IsActor}
 use Rattle.crgc_ids.specs.Members.{IsAmong}
 use Rattle.crgc_ids.specs.Nodes.{nodes_below}
@@ -9,7 +9,6 @@ use Rattle.crgc_ids.specs.Rising.{IsRising}
 use Rattle.crgc_ids.proofs.LostNodesLaws.{lost_nodes-lost, lost_nodes-rise}
 use Rattle.crgc_ids.proofs.MembersLaws.{IsAmong-from_filter, all-from_members, all-implied}
 use Rattle.history_model.specs.declared.events.Event.{Event}
-use Rattle.history_model.specs.declared.records.Stop.{Stop}
 use Rattle.history_model.specs.Cluster.{Cluster}
 use Rattle.history_model.specs.Facts.{is_received}
 use Rattle.history_model.specs.Folds.{cut_at, final_links, folded, is_lost, lost_of}
@@ -28,7 +27,7 @@ use Rattle.journal_model.specs.Lines.{IsNodeNumber, IsNumber, IsPrintableCut, Is
 use Rattle.bulletin_streams.proofs.BoundLemmas.{stream-short}
 use Rattle.evidence_report.proofs.Stopping.{tally-most}
 use Rattle.run_model.specs.Schedule.{IsWithinLimits}
-use Rattle.replay_laws.specs.Tellable.{IsInRange}
+use Rattle.replay_laws.specs.Tellable.{IsClusterInRange}
 use Rattle.replay_laws.proofs.LimitLemmas.{born-named, events-few}
 
 -- ---- the cut
@@ -61,7 +60,7 @@ counts-few cl m p within (n ∷ ns) =
     (omega (arith, cut-bounded cl m p n, stream-short cl n p, events-few cl p within), counts-few cl m p within ns)
 
 -- the cut of a sweep may be printed
-pub cut-printable : (cl : Cluster) (m : ℕ) (p : List Event) → IsInRange cl → IsWithinLimits cl p → IsNodeNumber m → IsPrintableCut m (map (cut_at cl m p) (nodes_below cl.nodes)) (lost_of cl (folded cl m p))
+pub cut-printable : (cl : Cluster) (m : ℕ) (p : List Event) → IsClusterInRange cl → IsWithinLimits cl p → IsNodeNumber m → IsPrintableCut m (map (cut_at cl m p) (nodes_below cl.nodes)) (lost_of cl (folded cl m p))
 cut-printable cl m p range within node =
     let counts = length-map-range_with_len (cut_at cl m p) 0 cl.nodes in (
       node,
@@ -84,7 +83,7 @@ received-few cl m p a legal =
     omega (arith, told, noted, took, most)
 
 -- the stop of an actor that is dead at m
-stop-printable : (cl : Cluster) (m : ℕ) (p : List Event) (a : Actor) → IsInRange cl → IsLegal cl p → IsWithinLimits cl p → IsNodeNumber m → IsAmong a (dead_at cl m p) → IsPrintableStop m (stop_of cl (is_lost cl (folded cl m p)) (folded cl m p) a)
+stop-printable : (cl : Cluster) (m : ℕ) (p : List Event) (a : Actor) → IsClusterInRange cl → IsLegal cl p → IsWithinLimits cl p → IsNodeNumber m → IsAmong a (dead_at cl m p) → IsPrintableStop m (stop_of cl (is_lost cl (folded cl m p)) (folded cl m p) a)
 stop-printable cl m p a range legal within node among =
     let lost = is_lost cl (folded cl m p) in
     let fold = folded cl m p in
@@ -101,7 +100,7 @@ stop-printable cl m p a range legal within node among =
     )
 
 -- the stops of a sweep may be printed
-pub stops-printable : (cl : Cluster) (m : ℕ) (p : List Event) → IsInRange cl → IsLegal cl p → IsWithinLimits cl p → IsNodeNumber m → AllByRecursion (IsPrintableStop m) (stops_of cl m p)
+pub stops-printable : (cl : Cluster) (m : ℕ) (p : List Event) → IsClusterInRange cl → IsLegal cl p → IsWithinLimits cl p → IsNodeNumber m → AllByRecursion (IsPrintableStop m) (stops_of cl m p)
 stops-printable cl m p range legal within node =
     each (stopped_by cl m p) (λ a among. (IsAmong-from_filter (λ b. (b.node == m) && not (is_stopped cl b p)) a (dead_at cl m p) among).0)
   where

@@ -1,5 +1,5 @@
 -- The numbers of a legal history within the limits are in their ranges.
-use Rattle.std.proofs.Common.{◌≡◌, ◌<◌, ◌≤◌, ◌^◌, ◌+◌, ◌&&◌, ◌==◌, ℕ, true, false, cond, List, [], ◌∷◌, ◌++◌, length, length-append, nat_lt, refl, sym, inl, inr, arith}
+use Rattle.std.proofs.Common.{◌≡◌, ◌<◌, ◌≤◌, ◌^◌, ◌&&◌, ◌==◌, ℕ, true, false, cond, List, [], ◌∷◌, ◌++◌, length, length-append, nat_lt, refl, sym, inl, inr, arith}
 use Rattle.std.proofs.lemmas.Bool.{ltb-true}
 use Rattle.std.specs.Prelude.{IsTrue}
 use Rattle.crgc_ids.specs.Actor.{Actor, IsActor}
@@ -14,10 +14,10 @@ use Rattle.history_model.specs.Streams.{stream}
 use Rattle.history_model.proofs.AccountsCopies.{copies-was_sent}
 use Rattle.history_model.proofs.Basics.{legal-kept}
 use Rattle.history_model.proofs.States.{legal-send}
-use Rattle.journal_model.specs.Lines.{AreActors, AreWithinRanges, IsNodeNumber, IsWithinRanges}
+use Rattle.journal_model.specs.Lines.{AreWithinRanges, IsNodeNumber, IsWithinRanges}
 use Rattle.bulletin_streams.proofs.BoundLemmas.{stream-short}
 use Rattle.run_model.specs.Schedule.{IsWithinLimits}
-use Rattle.replay_laws.specs.Tellable.{IsInRange}
+use Rattle.replay_laws.specs.Tellable.{IsClusterInRange}
 use Rattle.replay_laws.proofs.LimitLemmas.{born-named, events-few}
 
 -- no more messages were sent on a link than there are events
@@ -32,7 +32,7 @@ sent-short s d (Send f t refs ∷ p) =
     ]
 sent-short s d (e ∷ p) = omega (arith, sent-short s d p)
 
-module _ (cl : Cluster) (p : List Event) (range : IsInRange cl) (legal : IsLegal cl p) (within : IsWithinLimits cl p) where
+module _ (cl : Cluster) (p : List Event) (range : IsClusterInRange cl) (legal : IsLegal cl p) (within : IsWithinLimits cl p) where
   named : (a : Actor) → IsTrue (is_born a p) → IsActor a
   named a born = born-named cl p a range legal within born
 
@@ -44,11 +44,11 @@ module _ (cl : Cluster) (p : List Event) (range : IsInRange cl) (legal : IsLegal
   told-number : (o k : ℕ) → k < length (stream cl o p) → k < 2 ^ 32
   told-number o k there = omega (arith, there, stream-short cl o p, events-few cl p within)
 
-node-number : (cl : Cluster) (n : ℕ) → IsInRange cl → nat_lt n cl.nodes ≡ true → IsNodeNumber n
+node-number : (cl : Cluster) (n : ℕ) → IsClusterInRange cl → nat_lt n cl.nodes ≡ true → IsNodeNumber n
 node-number cl n range below = omega (arith, ltb-true n cl.nodes below, range.nodes)
 
 -- the numbers of the next event
-event-ranges : (cl : Cluster) (e : Event) (p : List Event) → IsInRange cl → IsLegal cl (e ∷ p) → IsWithinLimits cl p → ((f t : Actor) (refs : List Actor) → e ≡ Send f t refs → length refs ≤ 16) → IsWithinRanges e
+event-ranges : (cl : Cluster) (e : Event) (p : List Event) → IsClusterInRange cl → IsLegal cl (e ∷ p) → IsWithinLimits cl p → ((f t : Actor) (refs : List Actor) → e ≡ Send f t refs → length refs ≤ 16) → IsWithinRanges e
 event-ranges cl (Seed n) p range legal within few = node-number cl n range (legal-kept cl (Seed n) p legal).0
 event-ranges cl (Tie a b) p range legal within few =
     let kept = legal-kept cl (Tie a b) p legal in
@@ -92,7 +92,7 @@ event-ranges cl (Hand m o k) p range legal within few =
 event-ranges cl (Sweep m) p range legal within few = node-number cl m range (legal-kept cl (Sweep m) p legal).0
 
 -- the numbers of all events
-pub history-ranges : (cl : Cluster) (h : List Event) → IsInRange cl → IsLegal cl h → IsWithinLimits cl h → ((f t : Actor) (refs : List Actor) → IsAmong (Send f t refs) h → length refs ≤ 16) → AreWithinRanges h
+pub history-ranges : (cl : Cluster) (h : List Event) → IsClusterInRange cl → IsLegal cl h → IsWithinLimits cl h → ((f t : Actor) (refs : List Actor) → IsAmong (Send f t refs) h → length refs ≤ 16) → AreWithinRanges h
 history-ranges cl [] range legal within few = tt
 history-ranges cl (e ∷ p) range legal within few = (
   event-ranges cl e p range legal within.1 (λ f t refs same. few f t refs (inl (sym same))),

@@ -1,9 +1,8 @@
 -- A journal is read line by line, up to what its lines tell.
-use Rattle.std.proofs.Common.{◌≡◌, ◌<◌, ◌^◌, ◌+◌, ◌==◌, ◌&&◌, ℕ, Bool, true, false, if◌then◌else◌, List, [], ◌∷◌, ◌++◌, length, map, Option, None, Result, Ok, Err, refl, sym, ◌∙◌, ap, subst}
+use Rattle.std.proofs.Common.{◌≡◌, ◌<◌, ◌^◌, ◌+◌, ◌==◌, ℕ, Bool, true, false, if◌then◌else◌, List, [], ◌∷◌, ◌++◌, length, map, Option, None, Result, Ok, Err, refl, sym, ◌∙◌, ap, subst}
 use Rattle.std.proofs.lemmas.Bool.{and_from, eq-eqb}
 use Rattle.std.proofs.lemmas.Slice.Eq.{bytes_eq-Decides}
 use Rattle.std.specs.List.{AllByRecursion}
-use Rattle.std.specs.Str.{bytes_eq}
 use Rattle.crgc_ids.specs.Nodes.{nodes_below}
 use Rattle.crgc_ids.specs.declared.Which.{Which}
 use Rattle.history_model.specs.declared.events.Event.{Event}
@@ -13,11 +12,10 @@ use Rattle.history_model.specs.Cluster.{Cluster}
 use Rattle.history_model.specs.Folds.{cut_at, folded, lost_of}
 use Rattle.history_model.specs.Legal.{refusal}
 use Rattle.history_model.specs.Sweeps.{stops_of}
-use Rattle.journal_model.specs.declared.lines.Line.{Line}
 use Rattle.journal_model.specs.declared.lines.Line.TheVariants as lines
 use Rattle.journal_model.specs.Journals.{Fault, Replay, after_line, after_lines, after_read, after_told, allowed, at_line, differs, due_after}
 use Rattle.journal_model.specs.Limits.{limit_passed}
-use Rattle.journal_model.specs.Lines.{IsPrintable, IsPrintableCut, IsPrintableStop, IsWithinRanges, event_line, spell, spelling, stop_words, end_words}
+use Rattle.journal_model.specs.Lines.{IsPrintableCut, IsPrintableStop, IsWithinRanges, event_line, spell, spelling, stop_words, end_words}
 use Rattle.journal_model.specs.Report.{stopped_total, verdict_lines}
 use Rattle.event_lines.proofs.FreeLaws.{spelling-free}
 use Rattle.event_lines.proofs.LinesLaws.{spelling-read}

@@ -1,5 +1,5 @@
 -- The report of a history is a journal that tells it.
-use Rattle.std.proofs.Common.{◌≡◌, ◌<◌, ◌≤◌, ◌^◌, ℕ, Bool, true, false, if◌then◌else◌, nat_lt, List, [], ◌∷◌, ◌++◌, length, Option, Some, Result, Ok, Err, refl, ◌∙◌, ap, arith}
+use Rattle.std.proofs.Common.{◌≡◌, ◌≤◌, ℕ, Bool, true, false, if◌then◌else◌, nat_lt, List, [], ◌∷◌, ◌++◌, length, Option, Result, Ok, Err, refl, ◌∙◌, ap, arith}
 use Rattle.std.proofs.lemmas.Bool.Decides.{nat_tests}
 use Rattle.crgc_ids.specs.declared.Which.TheVariants.{Input}
 use Rattle.history_model.specs.declared.events.Event.{Event}
@@ -7,9 +7,9 @@ use Rattle.history_model.specs.declared.events.Event.TheVariants.{Sweep}
 use Rattle.history_model.specs.Cluster.{Cluster}
 use Rattle.history_model.specs.Legal.{IsLegal}
 use Rattle.history_model.specs.Story.{Story}
-use Rattle.journal_model.specs.Journals.{Fault, after_header, after_lines, header_of, journal_lines, journal_of, limit, told_of}
-use Rattle.journal_model.specs.Lines.{event_line, header_line, lines_of, spell, end_words, text_of}
-use Rattle.journal_model.specs.Report.{report_lines, stopped_total, told_lines, verdict_lines}
+use Rattle.journal_model.specs.Journals.{Fault, after_header, journal_lines, journal_of, limit, told_of}
+use Rattle.journal_model.specs.Lines.{event_line, header_line, lines_of, spell, end_words}
+use Rattle.journal_model.specs.Report.{stopped_total, told_lines, verdict_lines}
 use Rattle.journal_model.specs.Verdicts.{report_text}
 use Rattle.event_lines.proofs.ClusterHeaders.{header_of-header}
 use Rattle.event_lines.proofs.FreeLaws.{header_line-free}

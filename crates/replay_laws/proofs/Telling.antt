@@ -1,5 +1,5 @@
 -- What a journal tells may be told.
-use Rattle.std.proofs.Common.{◌≡◌, ◌+◌, ℕ, Bool, true, false, if◌then◌else◌, nat_lt, List, [], ◌∷◌, length, Option, Some, None, Result, Ok, Err, refl, sym, ap, subst}
+use Rattle.std.proofs.Common.{◌≡◌, ◌+◌, ℕ, Bool, true, false, if◌then◌else◌, nat_lt, List, [], ◌∷◌, length, Option, Some, None, Result, Ok, Err, refl}
 use Rattle.std.specs.Str.{bytes_eq}
 use Rattle.crgc_ids.specs.declared.Which.{Which}
 use Rattle.crgc_ids.specs.declared.Which.TheVariants.{Input}
@@ -11,16 +11,15 @@ use Rattle.history_model.specs.Story.{Story}
 use Rattle.journal_model.specs.declared.lines.Line.{Line}
 use Rattle.journal_model.specs.declared.lines.Line.TheVariants as lines
 use Rattle.journal_model.specs.declared.lines.LineFault.{LineFault}
-use Rattle.journal_model.specs.Journals.{Fault, Replay, after_counts, after_end, after_header, after_line, after_lines, after_read, after_said, after_told, allowed, at_line, differs, due_after, header_of, journal_lines, journal_of, limit, told_of}
+use Rattle.journal_model.specs.Journals.{Fault, Replay, after_end, after_header, after_line, after_lines, after_read, after_said, after_told, allowed, at_line, differs, due_after, header_of, journal_lines, journal_of, limit, told_of}
 use Rattle.journal_model.specs.Limits.{limit_passed}
 use Rattle.journal_model.specs.Lines.{AreWithinRanges, IsPrintable, IsWithinRanges, lines_of}
 use Rattle.journal_model.specs.Reading.{read_line}
-use Rattle.journal_model.specs.Report.{stopped_total}
 use Rattle.event_lines.proofs.ClusterHeaders.{header_of-cluster}
 use Rattle.event_lines.proofs.LinesLaws.{read-spelling}
 use Rattle.event_lines.proofs.ShapesLaws.{made}
 use Rattle.run_model.specs.Schedule.{IsWithinLimits}
-use Rattle.replay_laws.specs.Tellable.{IsInRange, IsTellable}
+use Rattle.replay_laws.specs.Tellable.{IsClusterInRange, IsTellable}
 
 -- the history that was read is as a journal's has to be
 record IsReadSo (cl : Cluster) (p : List Event) : Type 0 where
@@ -79,7 +78,7 @@ lines-so cl n r last (line ∷ rest) so is = chosen (λ next. lines-so cl (n + 1
     chosen later (Err fault) reads faulty = absurd (cc)
     chosen later (Ok next) reads goes_on = later next (read-so cl r next so line (read_line line) refl reads) goes_on
 
-header-in_range : (first : List ℕ) (cl : Cluster) → header_of first ≡ Some cl → IsInRange cl
+header-in_range : (first : List ℕ) (cl : Cluster) → header_of first ≡ Some cl → IsClusterInRange cl
 header-in_range first cl header =
     let found = header_of-cluster first cl header in
     record { some_node = found.0; nodes = found.1; some_version = found.2; version = found.3 }

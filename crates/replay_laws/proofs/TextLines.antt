@@ -1,5 +1,5 @@
 -- The lines of a text that is made of lines are those lines.
-use Rattle.std.proofs.Common.{◌≡◌, ◌∙◌, ℕ, List, [], ◌∷◌, ◌++◌, ap, append_assoc, append-nil, refl, sym}
+use Rattle.std.proofs.Common.{◌≡◌, ◌∙◌, ℕ, List, [], ◌∷◌, ◌++◌, ap, append_assoc, append-nil, refl}
 use Rattle.std.specs.List.{AllByRecursion, join_with_byte}
 use Rattle.journal_model.specs.Fields.{pieces}
 use Rattle.journal_model.specs.Lines.{line_of, lines_of, text_of, without_empty_end}

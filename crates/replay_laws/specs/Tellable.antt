@@ -7,7 +7,7 @@ use Rattle.journal_model.specs.Lines.{AreWithinRanges}
 use Rattle.run_model.specs.Schedule.{IsWithinLimits}
 
 -- the cluster has 1 to 16 nodes, and its version is 1 or 2
-pub record IsInRange (cl : Cluster) : Type 0 where
+pub record IsClusterInRange (cl : Cluster) : Type 0 where
   pub some_node : 1 ≤ cl.nodes
   pub nodes : cl.nodes ≤ 16
   pub some_version : 1 ≤ cl.version
@@ -15,7 +15,7 @@ pub record IsInRange (cl : Cluster) : Type 0 where
 
 -- the history is legal, its numbers are in their ranges, and it passes no limit at any of its events
 pub record IsTellable (cl : Cluster) (h : List Event) : Type 0 where
-  pub cluster : IsInRange cl
+  pub cluster : IsClusterInRange cl
   pub legal : IsLegal cl h
   pub ranges : AreWithinRanges h
   pub limits : IsWithinLimits cl h

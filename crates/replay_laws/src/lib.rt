@@ -14,7 +14,7 @@ ghost use Rattle.journal_model.specs.Journals.{journal_of};
 ghost use Rattle.journal_model.specs.Lines.{AreWithinRanges};
 ghost use Rattle.journal_model.specs.Verdicts.{report_text};
 ghost use Rattle.run_model.specs.Schedule.{IsWithinLimits};
-ghost use Rattle.replay_laws.specs.Tellable.{IsInRange, IsTellable, IsWithinInput};
+ghost use Rattle.replay_laws.specs.Tellable.{IsClusterInRange, IsTellable, IsWithinInput};
 
 /// A journal tells only what may be told: of a cluster of 1 to 16 nodes in version 1 or 2, a legal history whose numbers are in
 /// their ranges, and that passes no limit at any of its events.
@@ -24,7 +24,7 @@ pub fn what_a_journal_tells_is_legal()
 
 /// The numbers of a legal history that passes no limit are in their ranges, where each message carries at most 16 references.
 pub fn numbers_within_the_limits_are_in_range()
-    ensures { (cl : Cluster) (h : List Event) → IsInRange cl → IsLegal cl h → IsWithinLimits cl h
+    ensures { (cl : Cluster) (h : List Event) → IsClusterInRange cl → IsLegal cl h → IsWithinLimits cl h
         → ((f t : Actor) (refs : List Actor) → IsAmong (Send f t refs) h → length refs ≤ 16) → AreWithinRanges h }
 {}
 
