@@ -59,15 +59,15 @@ digits-free c (b ∷ ds) low d = ((λ e. omega (arith, digit_from_value b d.0)),
 pub decimal-free : (c n : ℕ) → c < 48 → n < 2 ^ 32 → IsFreeOf c (decimal n)
 decimal-free c n low small = digits-free c (decimal n) low (decimal_is_IsNumeral n (omega arith)).0.1
 
-free-append : (c : ℕ) (v w : List ℕ) → IsFreeOf c v → IsFreeOf c w → IsFreeOf c (v ++ w)
+pub free-append : (c : ℕ) (v w : List ℕ) → IsFreeOf c v → IsFreeOf c w → IsFreeOf c (v ++ w)
 free-append c [] w f g = g
 free-append c (b ∷ v) w f g = (f.0, free-append c v w f.1 g)
 
--- an actor's word has no space
-pub actor_word-free : (a : Actor) → IsActor a → IsFreeOf 32 (actor_word a)
-actor_word-free a name =
-    free-append 32 (decimal a.node) (46 ∷ decimal a.serial) (decimal-free 32 a.node (omega arith) (omega (arith, name.0)))
-    ((λ e. omega arith), decimal-free 32 a.serial (omega arith) (omega (arith, name.1)))
+-- an actor's word has digits and a dot alone
+pub actor_word-free : (c : ℕ) → c < 46 → (a : Actor) → IsActor a → IsFreeOf c (actor_word a)
+actor_word-free c low a name =
+    free-append c (decimal a.node) (46 ∷ decimal a.serial) (decimal-free c a.node (omega arith) (omega (arith, name.0)))
+    ((λ e. omega arith), decimal-free c a.serial (omega arith) (omega (arith, name.1)))
 
 -- an actor is read from its spelling
 pub actor_of-word : (a : Actor) → IsActor a → actor_of (actor_word a) ≡ Some a

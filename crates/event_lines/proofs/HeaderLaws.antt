@@ -3,14 +3,13 @@ use Rattle.std.proofs.Common.{◌≡◌, ◌≤◌, ◌||◌, ◌≢◌, ℕ, Bo
 use Rattle.std.proofs.lemmas.Bool.{eq-eqb, false≢true, ne_eqb}
 use Rattle.std.proofs.lemmas.Option.{none-some, same_Some, option_and_then_some}
 use Rattle.std.specs.Fmt.{decimal}
-use Rattle.std.specs.List.{AllByRecursion}
 use Rattle.std.specs.Option.{MatchOption}
 use Rattle.journal_model.specs.Lines.{header_words, spell, header_line}
 use Rattle.journal_model.specs.Fields.{pieces}
 use Rattle.event_lines.specs.Header.{header_numbers}
-use Rattle.event_lines.proofs.FreeLaws.{free_bytes}
-use Rattle.event_lines.proofs.FieldsLaws.{decimal-free, first_number-some, nothing_left-some, number_of-decimal}
-use Rattle.event_lines.proofs.PiecesLaws.{IsFreeOf, join-pieces, pieces-join}
+use Rattle.event_lines.proofs.FreeLaws.{header_words-free}
+use Rattle.event_lines.proofs.FieldsLaws.{first_number-some, nothing_left-some, number_of-decimal}
+use Rattle.event_lines.proofs.PiecesLaws.{join-pieces, pieces-join}
 use Rattle.event_lines.proofs.ShapesLaws.{first_name-some}
 
 -- the numbers are in range and their header is the line
@@ -51,8 +50,7 @@ header-words n v some few one two =
 
 header-line : (n v : ℕ) (line : List ℕ) → IsHeader n v line → header_numbers (pieces 32 line) ≡ Some (n, v)
 header-line n v line h =
-    let free : AllByRecursion (IsFreeOf 32) (header_words (record { nodes = n; version = v })) =
-    (free_bytes (codes "crgc") refl, (decimal-free 32 v (omega arith) (omega (arith, h.3)), (free_bytes (codes "nodes") refl, (decimal-free 32 n (omega arith) (omega (arith, h.1)), tt)))) in
+    let free = header_words-free 32 (omega arith) (record { nodes = n; version = v }) h.1 h.3 in
     let words = pieces-join 32 (codes "crgc") (decimal v ∷ codes "nodes" ∷ decimal n ∷ []) free in
     ap (λ l. header_numbers (pieces 32 l)) (sym h.4) ∙ ap header_numbers words ∙ header-words n v h.0 h.1 h.2 h.3
 

@@ -10,3 +10,4 @@ pub mod ExtraLaws
 pub mod WordsLaws
 pub mod MembersLaws
 pub mod HeaderLaws
+pub mod ClusterHeaders

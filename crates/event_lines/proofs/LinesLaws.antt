@@ -1,5 +1,5 @@
 -- What a line says is what spells it, and no line says two things.
-use Rattle.std.proofs.Common.{◌≡◌, ◌<◌, ◌≤◌, ◌^◌, ℕ, Bool, true, false, cond, List, [], ◌∷◌, ◌++◌, length, map, Result, Ok, codes, refl, sym, ◌∙◌, ap}
+use Rattle.std.proofs.Common.{◌≡◌, ◌<◌, ◌≤◌, ◌^◌, ℕ, Bool, true, false, cond, List, [], ◌∷◌, ◌++◌, length, map, Result, Ok, codes, refl, sym, ◌∙◌, ap, arith}
 use Rattle.std.proofs.lemmas.Slice.Eq.{bytes_eq-Decides}
 use Rattle.std.specs.Fmt.{decimal}
 use Rattle.std.specs.List.{AllByRecursion}
@@ -114,7 +114,7 @@ words-read (lines.Cut m counts lost) h = rw (cut_fields-words m counts lost h) r
 words-read (lines.Stop m s) h = rw (stop_fields-words (m, s) h) refl
 words-read (lines.End events stopped) h = rw (end_fields-words events stopped h.0 h.1) refl
 
-pieces-words : (words : List (List ℕ)) (l : Line) → read_words words ≡ Ok l → AreFree words → pieces 32 (spell words) ≡ words
+pieces-words : (words : List (List ℕ)) (l : Line) → read_words words ≡ Ok l → AreFree 32 words → pieces 32 (spell words) ≡ words
 pieces-words [] l r free = absurd cc
 pieces-words (w ∷ ws) l r free = pieces-join 32 w ws free
 
@@ -122,7 +122,7 @@ pieces-words (w ∷ ws) l r free = pieces-join 32 w ws free
 pub spelling-read : (l : Line) → IsPrintable l → read_line (spelling l) ≡ Ok l
 spelling-read l h =
     let r = words-read l h in
-    ap read_words (pieces-words (line_words l) l r (line_words-free l h)) ∙ r
+    ap read_words (pieces-words (line_words l) l r (line_words-free 32 (omega arith) l h)) ∙ r
 
 words-spelled : (words : List (List ℕ)) (l : Line) → read_words words ≡ Ok l → IsPrintable l × (line_words l ≡ words)
 words-spelled [] l e = absurd cc
