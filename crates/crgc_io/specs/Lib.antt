@@ -1,4 +1,5 @@
 pub mod Edges
 pub mod Fault
 pub mod Memory
+pub mod Recorded
 pub mod Taken

@@ -1,5 +1,5 @@
 -- What contracts see of a source and a sink over memory.
-use Rattle.std.specs.Prelude.{ℕ, Bool, if◌then◌else◌, List}
+use Rattle.std.specs.Prelude.{ℕ, Bool, true, false, if◌then◌else◌, List, [], ◌∷◌}
 use Rattle.crgc_io.specs.Fault.{raised}
 
 -- how many bytes a call moves at most, the numbers of the calls that are to fail, how many calls
@@ -32,3 +32,8 @@ pub record Writing : Type 0 where
   pub held : List ℕ
   pub room : ℕ
   pub calls : Calls
+
+-- whether no byte is left
+abbrev pub has_nothing : List ℕ → Bool
+has_nothing [] = true
+has_nothing (b ∷ bs) = false

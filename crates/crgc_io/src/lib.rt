@@ -6,6 +6,7 @@ mod calls;
 mod edges;
 mod gate;
 mod memory;
+mod record;
 #[cfg(test)]
 mod tests;
 mod traits;

@@ -1,10 +1,11 @@
 //! A source and a sink over memory, for tests: which bytes come in which call, and which calls
 //! fail, is known.
-ghost use Rattle.std.specs.Prelude.{◌≡◌, ℕ, ◌-◌, ◌<◌, ◌≤◌, ◌⊎◌, ◌↔◌, ◌++◌, [], Some, Contains, IfOk, OnErr, OnOk, IsErr, length, take, drop, min, is_err};
+ghost use Rattle.std.specs.Prelude.{◌≡◌, ℕ, ◌-◌, ◌<◌, ◌≤◌, ◌⊎◌, ◌↔◌, ◌++◌, [], Some, Contains, IfOk, OnErr, OnOk, IsErr, length, take, drop, min, is_err, true};
 ghost use Rattle.std.specs.Io.{ReadsAtMost, WritesAtMost};
 ghost use Rattle.std.specs.Io.KnownBytes.{ReadConsumes, WriteAppends};
 ghost use Rattle.crgc_io.specs.Fault.{CountRose};
-ghost use Rattle.crgc_io.specs.Memory.{after_call, calls_from};
+ghost use Rattle.crgc_io.specs.Memory.{after_call, calls_from, has_nothing};
+ghost use Rattle.crgc_io.specs.Taken.{Records};
 
 use crate::calls::MemoryCalls;
 use crate::traits::{Failed, Sink, Source};
@@ -57,14 +58,17 @@ impl MemorySource {
 impl Source for MemorySource {
     ghost left = { λ s. Some s.left };
 
-    ghost given = { λ s. Some s.given };
+    ghost given = { λ s. s.given };
+
+    ghost ended = { λ s. has_nothing s.left };
 
     ghost faults = { λ s. s.calls.faults };
 
     fn read(&mut self, buf: &mut [u8]) -> Result<usize, Failed>
         ensures bound { ReadsAtMost result buf.new }
         ensures bytes { ReadConsumes (Some self.old.left) (Some self.new.left) result buf.new }
-        ensures record { WriteAppends (Some self.old.given) (Some self.new.given) result buf.new }
+        ensures record { Records self.old.given self.new.given result buf.new }
+        ensures end { IfOk result (λ n. n ≡ 0 → 0 < length buf.new → has_nothing self.new.left ≡ true) }
         ensures never_falls { self.old.calls.faults ≤ self.new.calls.faults }
         ensures failed { OnErr result (CountRose self.old.calls.faults self.new.calls.faults) }
         ensures stands { OnOk result (self.new.calls.faults ≡ self.old.calls.faults) }
@@ -152,12 +156,15 @@ impl MemorySink {
 impl Sink for MemorySink {
     ghost held = { λ s. Some s.held };
 
+    ghost taken = { λ s. s.held };
+
     ghost faults = { λ s. s.calls.faults };
 
     fn write(&mut self, piece: &[u8]) -> Result<usize, Failed>
         ensures bound { WritesAtMost result piece.now }
         ensures progress { IfOk result (λ n. 0 < length piece.now → 0 < n) }
         ensures bytes { WriteAppends (Some self.old.held) (Some self.new.held) result piece.now }
+        ensures record { Records self.old.held self.new.held result piece.now }
         ensures never_falls { self.old.calls.faults ≤ self.new.calls.faults }
         ensures failed { OnErr result (CountRose self.old.calls.faults self.new.calls.faults) }
         ensures stands { OnOk result (self.new.calls.faults ≡ self.old.calls.faults) }

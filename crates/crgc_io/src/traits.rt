@@ -1,8 +1,9 @@
 //! What reads and what writes.
-ghost use Rattle.std.specs.Prelude.{◌≡◌, ℕ, ◌<◌, ◌≤◌, List, Option, length, IfOk, OnErr, OnOk, take};
+ghost use Rattle.std.specs.Prelude.{◌≡◌, ℕ, Bool, true, ◌<◌, ◌≤◌, List, Option, length, IfOk, OnErr, OnOk, take};
 ghost use Rattle.std.specs.Io.{ReadsAtMost, WritesAtMost};
 ghost use Rattle.std.specs.Io.KnownBytes.{ReadConsumes, Appends, Keeps, WriteAppends};
 ghost use Rattle.crgc_io.specs.Fault.{CountRose};
+ghost use Rattle.crgc_io.specs.Taken.{Records};
 
 /// A read or a write that moved nothing, and that its object counted as a fault.
 #[derive(Clone, Copy, PartialEq, Eq, Debug)]
@@ -14,8 +15,11 @@ pub trait Source {
     // the bytes that reads will give from here on, where it tells them
     ghost left: { Self → Option (List ℕ) };
 
-    // the bytes that reads have given so far, where it records them
-    ghost given: { Self → Option (List ℕ) };
+    // the bytes that reads have given so far
+    ghost given: { Self → List ℕ };
+
+    // whether the last read gave none though it had room, which is the end
+    ghost ended: { Self → Bool };
 
     // how many faults it has counted; the count stands still at 18,446,744,073,709,551,615
     ghost faults: { Self → ℕ };
@@ -25,7 +29,8 @@ pub trait Source {
     fn read(&mut self, buf: &mut [u8]) -> Result<usize, Failed>
         ensures bound { ReadsAtMost result buf.new }
         ensures bytes { ReadConsumes (left self.old) (left self.new) result buf.new }
-        ensures record { WriteAppends (given self.old) (given self.new) result buf.new }
+        ensures record { Records (given self.old) (given self.new) result buf.new }
+        ensures end { IfOk result (λ n. n ≡ 0 → 0 < length buf.new → ended self.new ≡ true) }
         ensures never_falls { faults self.old ≤ faults self.new }
         ensures failed { OnErr result (CountRose (faults self.old) (faults self.new)) }
         ensures stands { OnOk result (faults self.new ≡ faults self.old) };
@@ -37,6 +42,9 @@ pub trait Sink {
     // the bytes that it holds, where it tells them
     ghost held: { Self → Option (List ℕ) };
 
+    // the bytes that writes have taken so far
+    ghost taken: { Self → List ℕ };
+
     // how many faults it has counted; the count stands still at 18,446,744,073,709,551,615
     ghost faults: { Self → ℕ };
 
@@ -46,6 +54,7 @@ pub trait Sink {
         ensures bound { WritesAtMost result piece.now }
         ensures progress { IfOk result (λ n. 0 < length piece.now → 0 < n) }
         ensures bytes { WriteAppends (held self.old) (held self.new) result piece.now }
+        ensures record { Records (taken self.old) (taken self.new) result piece.now }
         ensures never_falls { faults self.old ≤ faults self.new }
         ensures failed { OnErr result (CountRose (faults self.old) (faults self.new)) }
         ensures stands { OnOk result (faults self.new ≡ faults self.old) };

@@ -1,8 +1,8 @@
 //! Reading to the end, and writing all.
-ghost use Rattle.std.specs.Prelude.{◌≡◌, ℕ, ◌+◌, ◌<◌, ◌≤◌, ◌++◌, List, Option, length, take, IfOk, IfErr, OnOk, Ok, vec_len};
-ghost use Rattle.std.specs.Io.KnownBytes.{Appends, IsAtEnd};
+ghost use Rattle.std.specs.Prelude.{◌≡◌, ℕ, ◌+◌, ◌<◌, ◌≤◌, ◌++◌, List, Option, length, take, IfOk, IfErr, OnOk, Ok, true, vec_len};
+ghost use Rattle.std.specs.Io.KnownBytes.{IsAtEnd};
 ghost use Rattle.crgc_io.specs.Fault.{CountRose};
-ghost use Rattle.crgc_io.specs.Taken.{HasCounted, IsCountAt, Takes};
+ghost use Rattle.crgc_io.specs.Taken.{HasCounted, IsCountAt, Puts, Takes};
 
 use crate::traits::{Failed, Sink, Source};
 use std::alloc::Global;
@@ -32,7 +32,7 @@ pub struct WriteFault {
 pub fn read_all<S: Source>(alloc: Global, source: &mut S, limit: usize) -> Result<Vec<u8>, ReadAll>
     requires { limit < usize.MAX }
     ensures ok { IfOk result (λ v. Takes S.left S.given source.old source.new v.items) }
-    ensures end { IfOk result (λ _. IsAtEnd (S.left source.new)) }
+    ensures end { IfOk result (λ _. IsAtEnd (S.left source.new) × (S.ended source.new ≡ true)) }
     ensures within { IfOk result (λ v. vec_len v ≤ limit) }
     ensures err { IfErr result (λ e. (bs : List ℕ)
         × Takes S.left S.given source.old source.new bs × IsCountAt e limit (length bs)) }
@@ -56,7 +56,7 @@ fn read_through<S: Source>(
     requires limit { limit < usize.MAX }
     requires room { 0 < length piece.old }
     ensures ok { IfOk result (λ v. Takes S.left S.given source.old source.new v.items) }
-    ensures end { IfOk result (λ _. IsAtEnd (S.left source.new)) }
+    ensures end { IfOk result (λ _. IsAtEnd (S.left source.new) × (S.ended source.new ≡ true)) }
     ensures within { IfOk result (λ v. vec_len v ≤ limit) }
     ensures err { IfErr result (λ e. (bs : List ℕ)
         × Takes S.left S.given source.old source.new bs × IsCountAt e limit (length bs)) }
@@ -90,7 +90,7 @@ fn read_piece<S: Source>(
         × (bytes.new.items ≡ bytes.old.items ++ bs)
         × (length bs ≡ n)
         × (vec_len bytes.new ≤ limit + 1)) }
-    ensures end { result ≡ Ok 0 → IsAtEnd (S.left source.new) }
+    ensures end { result ≡ Ok 0 → IsAtEnd (S.left source.new) × (S.ended source.new ≡ true) }
     ensures err { IfErr result (λ e. (bs : List ℕ)
         × Takes S.left S.given source.old source.new bs
         × IsCountAt e limit (vec_len bytes.old + length bs)) }
@@ -111,9 +111,8 @@ fn read_piece<S: Source>(
 
 /// Writes all bytes, in pieces of 64 KiB. Linear time.
 pub fn write_all<K: Sink>(sink: &mut K, bytes: &[u8]) -> Result<(), WriteFault>
-    ensures ok { OnOk result (Appends (K.held sink.old) (K.held sink.new) bytes.now) }
-    ensures err { IfErr result (λ e.
-        Appends (K.held sink.old) (K.held sink.new) (take e.written bytes.now)) }
+    ensures ok { OnOk result (Puts K.held K.taken sink.old sink.new bytes.now) }
+    ensures err { IfErr result (λ e. Puts K.held K.taken sink.old sink.new (take e.written bytes.now)) }
     ensures before_end { IfErr result (λ e. e.written < length bytes.now) }
     ensures stands { OnOk result (K.faults sink.new ≡ K.faults sink.old) }
     ensures fault { IfErr result (λ _. CountRose (K.faults sink.old) (K.faults sink.new)) }

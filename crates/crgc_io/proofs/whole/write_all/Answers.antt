@@ -2,8 +2,8 @@
 use Rattle.std.proofs.Common.{◌≡◌, ◌≤◌, ◌+◌, ◌++◌, ℕ, List, arith, length, length-take, length-drop, take, drop, sym, subst, ◌∙◌, ap}
 use Rattle.std.proofs.lemmas.List.{take-take}
 use Rattle.std.proofs.Math.Seq.{take-add}
-use Rattle.std.specs.Io.KnownBytes.{Appends}
-use Rattle.std.proofs.KnownBytes.{Appends-trans}
+use Rattle.crgc_io.specs.Taken.{Puts}
+use Rattle.crgc_io.proofs.TakenLemmas.{Puts-trans}
 use Rattle.crgc_io.proofs.whole.write_all.Goals as goal
 
 -- n bytes from the front of a piece are no more than the piece, and than what the list has from there on
@@ -20,8 +20,8 @@ front_of_piece start size n bytes small =
 
 pub loop-written-preserved : goal.loop-written-preserved
 loop-written-preserved g c =
-    let (within, appended, never_falls) = c.loop-written.invariant in
+    let (within, put, never_falls) = c.loop-written.invariant in
     let wrote = c.in-Ok.ensures in
     let (small, fits) = within_piece _ _ c.in-Ok.n _ wrote.bound within in
     let joined = front_of_piece _ _ c.in-Ok.n c.args.bytes.now small in
-    (fits, subst (Appends _ _) joined (Appends-trans _ _ _ _ _ appended wrote.bytes), omega (arith, wrote.never_falls))
+    (fits, subst (Puts _ _ _ _) joined (Puts-trans _ _ _ _ _ _ _ put (record { appended = wrote.bytes; recorded = wrote.record })), omega (arith, wrote.never_falls))
