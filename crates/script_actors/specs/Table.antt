@@ -46,12 +46,12 @@ next_on t n = record { node = n; serial = length (rows_on t n) }
 pub record SetsRow (old new : Table) (a : Actor) (row : Row) : Type 0 where
   pub nodes : length new ≡ length old
   pub counts : (n : ℕ) → length (rows_on new n) ≡ length (rows_on old n)
-  pub row : row_at new a ≡ Some row
+  pub is_row : row_at new a ≡ Some row
   pub others : (b : Actor) → b ≢ a → row_at new b ≡ row_at old b
 
 -- the actor that was next on its node has this row now, and no other row changed
 pub record AddsRow (old new : Table) (a : Actor) (row : Row) : Type 0 where
   pub nodes : length new ≡ length old
   pub counts : (n : ℕ) → length (rows_on new n) ≡ (if a.node == n then length (rows_on old n) + 1 else length (rows_on old n))
-  pub row : row_at new a ≡ Some row
+  pub is_row : row_at new a ≡ Some row
   pub others : (b : Actor) → b ≢ a → row_at new b ≡ row_at old b

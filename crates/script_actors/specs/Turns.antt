@@ -32,7 +32,7 @@ pub record IsTurnOf (s : Scripted) (a : Actor) (h : List Event) (t : TurnState) 
 
 -- the turn made this step
 pub record MakesStep (code : List Behaviour) (step : Step) (old new : TurnState) : Type 0 where
-  pub step : step ≡ next_step (left_of code old)
+  pub is_next : step ≡ next_step (left_of code old)
   pub after : left_of code new ≡ after_step (left_of code old)
   pub behaviour : new.behaviour ≡ old.behaviour
   pub ended : new.ended ≡ is_end step

@@ -18,7 +18,7 @@ ghost use Rattle.script_actors.specs.Standing.{AreActorsAt, names_now};
 ghost use Rattle.script_actors.specs.Turns.{IsTurnOf, left_now};
 
 use crate::rows::{NodeRows, Row};
-use behaviour_lang::{Code, List, Locals, Turn};
+use behaviour_lang::{Code, Locals, Turn};
 use crgc_ids::{ActorId, NoMemory, Octets, RefList};
 use std::alloc::Global;
 use std::marker::Model;
@@ -46,7 +46,7 @@ impl ScriptActors {
         &mut self,
         code: &Code,
         actor: ActorId,
-        list: List,
+        list: behaviour_lang::List,
         refs: RefList,
         root: bool,
     ) -> Result<Turn, NoMemory>

@@ -1,5 +1,5 @@
 //! The turns and wakes of one node.
-ghost use Rattle.std.specs.Prelude.{◌≡◌, ◌+◌, ◌-◌, ◌<◌, ◌≤◌, ◌^◌, ◌++◌, ◌∷◌, get_or, length, slice_set, OnErr, OnOk};
+ghost use Rattle.std.specs.Prelude.{◌≡◌, ◌+◌, ◌-◌, ◌<◌, ◌≤◌, ◌^◌, ◌++◌, ◌∷◌, [], get_or, length, slice_set, OnErr, OnOk};
 ghost use Rattle.script_progress.specs.Used.{unused};
 
 use crgc_ids::NoMemory;
