@@ -1,5 +1,5 @@
 -- What the progress stands for, in a history of a script.
-use Rattle.std.specs.Prelude.{◌≡◌, ℕ, ◌&&◌, Bool, true, false, not, nat_lt, List, length}
+use Rattle.std.specs.Prelude.{◌≡◌, ℕ, ◌&&◌, Bool, true, false, not, nat_lt, List, [], get_or, length, map}
 use Rattle.std.specs.List.{list_any}
 use Rattle.crgc_ids.specs.Actor.{Actor, IsActorBelow}
 use Rattle.history_model.specs.declared.events.Event.{Event}
@@ -8,8 +8,12 @@ use Rattle.history_model.specs.Messages.{is_lose, is_repeat}
 use Rattle.history_model.specs.State.{is_root, is_up}
 use Rattle.fault_plan.specs.Rows.{Planned}
 use Rattle.script_reader.specs.Valid.{Scripted}
-use Rattle.run_model.specs.Planned.{begun, ended, ended_on, has_row, wakes_left}
-use Rattle.script_progress.specs.Used.{Used, ended_in, wakes_in}
+use Rattle.run_model.specs.Planned.{begun, ended, ended_on, has_row, wakes_left, wakes_of}
+use Rattle.script_progress.specs.Used.{NodeUsed, Used, ended_in, unused, wakes_in}
+use Rattle.history_model.specs.Cluster.{births}
+use Rattle.history_model.specs.Rows.{onto}
+use Rattle.script_reader.specs.declared.script.Seed.{Seed as SeedRow}
+use Rattle.run_model.specs.Doing.{row_of}
 
 -- the actor has a wake left, is a root, and its node is up. Who is not so once will never be
 abbrev pub can_wake : Scripted → Actor → List Event → Bool
@@ -53,3 +57,11 @@ is_of_no_plan (Crash n) = true
 is_of_no_plan (Remove m n) = true
 is_of_no_plan (Hand m o k) = true
 is_of_no_plan (Sweep m) = true
+
+-- ---- at the beginning
+
+-- the nodes have these seeds, in order, each with its wakes, and no turn ended
+pub record AreSeeded (seeds : List SeedRow) (nodes : List NodeUsed) : Type 0 where
+  pub counts : (n : ℕ) → length (get_or nodes n unused).wakes ≡ births n (onto [] (map (λ (x : SeedRow). Seed x.node) seeds))
+  pub wakes : (a : Actor) → get_or (get_or nodes a.node unused).wakes a.serial 0 ≡ wakes_of (row_of seeds [] a)
+  pub ended : (n : ℕ) → (get_or nodes n unused).ended ≡ 0

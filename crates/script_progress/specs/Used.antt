@@ -1,6 +1,6 @@
 -- What contracts see of the progress of a script: how much of its plan is used.
-use Rattle.std.specs.Prelude.{◌≡◌, ◌+◌, ◌<◌, ◌^◌, ◌==◌, if◌then◌else◌, ℕ, Bool, true, false, List, [], get_or, Option, Some, None}
-use Rattle.crgc_ids.specs.Actor.{Actor, same_actor}
+use Rattle.std.specs.Prelude.{◌≡◌, ◌⊎◌, ◌≤◌, ◌+◌, ◌<◌, ◌^◌, ◌==◌, if◌then◌else◌, ℕ, Bool, true, false, List, [], get_or, length, Option, Some, None}
+use Rattle.crgc_ids.specs.Actor.{Actor, IsActorBelow, same_actor}
 use Rattle.history_model.specs.declared.events.Event.{Event}
 use Rattle.history_model.specs.declared.events.Event.TheVariants as events
 use Rattle.fault_plan.specs.Rows.{Planned, crash_of}
@@ -66,11 +66,21 @@ with_turn p = record p { begun = p.begun + 1 }
 -- the actor has one wake less, and each other one what it had; nothing else changed
 pub record Wakes (old new : Used) (a : Actor) : Type 0 where
   pub others : new ≡ record old { begun = old.begun + 1; nodes = new.nodes }
+  pub count : length new.nodes ≡ length old.nodes
   pub ended : (n : ℕ) → ended_in new n ≡ ended_in old n
   pub wakes : (b : Actor) → wakes_in new b + (if same_actor a b then 1 else 0) ≡ wakes_in old b
 
 -- one turn more ended on the node; nothing else changed
 pub record Ends (old new : Used) (n : ℕ) : Type 0 where
   pub others : new ≡ record old { ended = old.ended + 1; nodes = new.nodes }
+  pub count : length new.nodes ≡ length old.nodes
   pub ended : (m : ℕ) → ended_in new m ≡ (if n == m then ended_in old m + 1 else ended_in old m)
   pub wakes : (b : Actor) → wakes_in new b ≡ wakes_in old b
+
+-- each actor below this one was passed before, or has no wake left
+abbrev pub ArePassed : Used → Actor → Type 0
+ArePassed p a = (b : Actor) → IsActorBelow b a → IsActorBelow b p.next ⊎ (wakes_in p b ≡ 0)
+
+-- so has each actor of a node that the progress has
+abbrev pub AreAllPassed : Used → Type 0
+AreAllPassed p = (b : Actor) → b.node < length p.nodes → IsActorBelow b p.next ⊎ (wakes_in p b ≡ 0)

@@ -1,5 +1,5 @@
 //! The turns and wakes of one node.
-ghost use Rattle.std.specs.Prelude.{◌≡◌, ◌+◌, ◌-◌, ◌<◌, ◌≤◌, ◌^◌, ◌++◌, ◌∷◌, [], get_or, length, slice_set, OnErr, OnOk};
+ghost use Rattle.std.specs.Prelude.{ℕ, ◌≡◌, ◌+◌, ◌-◌, ◌<◌, ◌≤◌, ◌^◌, ◌++◌, ◌∷◌, [], get_or, length, slice_set, IfNone, IfSome, OnErr, OnOk};
 ghost use Rattle.script_progress.specs.Used.{unused};
 
 use crgc_ids::NoMemory;
@@ -15,11 +15,14 @@ pub struct NodeProgress {
 }
 
 impl Model for NodeProgress {
+    ghost use Rattle.std.specs.Prelude.{◌≤◌, length};
     ghost use Rattle.script_progress.specs.Used.{NodeUsed};
 
     ghost Value = { NodeUsed };
 
     ghost view = { λ n. record { ended = n.ended; wakes = n.wakes.items } };
+
+    ghost invariant = { λ n. length n.wakes.items ≤ 262144 };
 }
 
 impl NodeProgress {
@@ -35,6 +38,7 @@ impl NodeProgress {
 
     /// The next seed has so many wakes. After `NoMemory` all is as before.
     pub fn push(&mut self, wakes: u32) -> Result<(), NoMemory>
+        requires { length self.old.wakes < 262144 }
         ensures ok { OnOk result (self.new ≡ record self.old { wakes = self.old.wakes ++ wakes ∷ [] }) }
         ensures err { OnErr result (self.new ≡ self.old) }
     {
@@ -59,6 +63,21 @@ impl NodeProgress {
             Some(left) => *left,
             None => 0,
         }
+    }
+
+    /// The first seed from this one on that has a wake left; None where there is none. Linear time in those that have none.
+    pub fn next_with_wakes(&self, from: usize) -> Option<usize>
+        ensures left { IfSome result (λ i. 0 < get_or self.now.wakes i 0) }
+        ensures passed { IfSome result (λ i. (k : ℕ) → from ≤ k → k < i → get_or self.now.wakes k 0 ≡ 0) }
+        ensures in_range { IfSome result (λ i. i < 262144) }
+        ensures none { IfNone result ((k : ℕ) → from ≤ k → get_or self.now.wakes k 0 ≡ 0) }
+    {
+        for i in from..self.wakes.len() {
+            if 0 < self.wakes[i] {
+                return Some(i);
+            }
+        }
+        None
     }
 
     /// One turn more ended.

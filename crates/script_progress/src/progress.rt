@@ -8,7 +8,7 @@ ghost use Rattle.history_model.specs.declared.events.Event.TheVariants.{Lose as 
 ghost use Rattle.fault_plan.specs.Rows.{link_row, same_row};
 ghost use Rattle.script_reader.specs.Valid.{Scripted};
 ghost use Rattle.run_model.specs.Planned.{carry, crash_due, ended, has_row, is_within_budget, wakes_left};
-ghost use Rattle.script_progress.specs.Used.{Ends, HasRoom, Wakes, carried, carry_in, ended_in, is_crash_due, wakes_in, with_turn};
+ghost use Rattle.script_progress.specs.Used.{AreAllPassed, ArePassed, Ends, HasRoom, Wakes, carried, carry_in, ended_in, is_crash_due, wakes_in, with_turn};
 ghost use Rattle.script_progress.specs.Standing.{IsProgressAt, can_wake};
 
 use crate::carry::Carry;
@@ -31,6 +31,7 @@ pub struct Progress {
 }
 
 impl Model for Progress {
+    ghost use Rattle.std.specs.Prelude.{◌≤◌, length};
     ghost use Rattle.script_progress.specs.Used.{Used};
 
     ghost Value = { Used };
@@ -43,6 +44,8 @@ impl Model for Progress {
         next = record { node = p.next_node; serial = p.next_serial };
         plan = p.plan;
     } };
+
+    ghost invariant = { λ p. length p.nodes.items ≤ 16 };
 }
 
 impl Progress {
@@ -106,6 +109,7 @@ impl Progress {
         ensures after { Wakes self.old self.new actor }
         ensures stands { (s : Scripted) (h : List Event) → IsProgressAt s h self.old → IsProgressAt s (Wake actor ∷ h) self.new }
     {
+        let _turns = self.turns;
         self.begun += 1;
         self.nodes[actor.node().get() as usize].wake(actor.serial() as usize);
     }
@@ -116,6 +120,7 @@ impl Progress {
         ensures after { self.new ≡ with_turn self.old }
         ensures stands { (s : Scripted) (h : List Event) (a : Actor) → IsProgressAt s h self.old → IsProgressAt s (Take a ∷ h) self.new }
     {
+        let _turns = self.turns;
         self.begun += 1;
     }
 
@@ -158,8 +163,39 @@ impl Progress {
         ensures left { IfSome result (λ c. 0 < wakes_in self.new c) }
         ensures none { IfNone result (length self.new.nodes ≤ self.new.next.node) }
         ensures others { self.new ≡ record self.old { next = self.new.next } }
+        ensures passed { ArePassed self.old self.new.next }
         ensures stands { (s : Scripted) (h : List Event) → IsProgressAt s h self.old → IsProgressAt s h self.new }
     {
+        match self.next_with_wakes() {
+            Some(actor) => {
+                self.next_node = actor.node().get() as usize;
+                self.next_serial = actor.serial() as usize;
+                Some(actor)
+            }
+            None => {
+                self.next_node = self.nodes.len();
+                self.next_serial = 0;
+                None
+            }
+        }
+    }
+
+    // The first seed that was not passed and has a wake left.
+    fn next_with_wakes(&self) -> Option<ActorId>
+        ensures left { IfSome result (λ c. 0 < wakes_in self.now c) }
+        ensures passed { IfSome result (ArePassed self.now) }
+        ensures none { IfNone result (AreAllPassed self.now) }
+    {
+        for n in self.next_node..self.nodes.len() {
+            let from = if n == self.next_node {
+                self.next_serial
+            } else {
+                0
+            };
+            if let Some(serial) = self.nodes[n].next_with_wakes(from) {
+                return Some(seed_at(n, serial));
+            }
+        }
         None
     }
 
@@ -182,4 +218,13 @@ impl Progress {
             None => 0,
         }
     }
+}
+
+/// The actor with this serial on the node.
+fn seed_at(node: usize, serial: usize) -> ActorId
+    requires node { node < 16 }
+    requires serial { serial < 262144 }
+    ensures { result ≡ record { node = node; serial = serial } }
+{
+    ActorId::new(NodeId::new(node as u8).unwrap(), serial as u32).unwrap()
 }
