@@ -1,8 +1,8 @@
 -- The progress at the beginning of a script.
-use Rattle.std.proofs.Common.{◌≡◌, ◌≢◌, ◌+◌, ◌-◌, ◌≤◌, ◌<◌, ◌==◌, ℕ, Bool, true, false, not, cond, if◌then◌else◌, List, [], ◌∷◌, ◌++◌, get_or, length, map, set, Option, Some, None, refl, sym, ◌∙◌, ap, subst, arith, inl, inr, ◌&&◌}
-use Rattle.std.specs.List.{list_any}
+use Rattle.std.proofs.Common.{◌≡◌, ◌≢◌, ◌+◌, ◌-◌, ◌≤◌, ◌<◌, ◌==◌, ℕ, zero, suc, Bool, true, false, not, cond, if◌then◌else◌, List, [], ◌∷◌, ◌++◌, get_or, length, map, set, Option, Some, None, refl, sym, ◌∙◌, ap, subst, arith, inl, inr, ◌&&◌}
+use Rattle.std.specs.List.{list_all, list_any}
 use Rattle.std.proofs.lemmas.Bool.{and_parts, cases_eq, cases_lt, eq-eqb, false≢true, false_from_ne_true, ne_eqb}
-use Rattle.std.proofs.lemmas.List.{get_or-set_other, get_or-set_same, get_or_append_left, get_or-append_right, get_or_past, length-append}
+use Rattle.std.proofs.lemmas.List.{get_or_default, get_or-set_other, get_or-set_same, get_or_append_left, get_or-append_right, get_or_past, length-append}
 use Rattle.crgc_ids.specs.Actor.{Actor, same_actor}
 use Rattle.crgc_ids.proofs.ActorLaws.{same_parts}
 use Rattle.history_model.specs.declared.events.Event.{Event}
@@ -106,6 +106,38 @@ module _ (xs : List SeedRow) (nodes : List NodeUsed) (x : SeedRow) (stands : Are
     ];
   }
 
+-- the same, where the node was lent and given back
+pub seeded-set : (xs more : List SeedRow) (nodes : List NodeUsed) (x : SeedRow) (i : ℕ) (old new : NodeUsed) → AreSeeded xs nodes → more ≡ xs ++ x ∷ [] → i ≡ x.node → x.node < length nodes → old ≡ get_or nodes i old → new ≡ with_seed old x.wakes
+    → AreSeeded more (set nodes i new)
+seeded-set xs more nodes x i old new stands e at within here pushed =
+    let found : old ≡ get_or nodes x.node unused = here ∙ get_or_default nodes i old unused (omega (arith, at, within)) ∙ ap (λ n. get_or nodes n unused) at in
+    subst (λ ys. AreSeeded ys (set nodes i new)) (sym e)
+    (subst (λ n. AreSeeded (xs ++ x ∷ []) (set nodes n new)) (sym at)
+    (subst (λ m. AreSeeded (xs ++ x ∷ []) (set nodes x.node m)) (sym (pushed ∙ ap (λ m. with_seed m x.wakes) found)) (seeded-next xs nodes x stands within)))
+
+-- no node has more seeds than there are
+seeds-few : (n : ℕ) (xs : List SeedRow) (h : List Event) → births n (seeds_done xs h) ≤ length xs + births n h
+seeds-few n [] h = omega arith
+seeds-few n (y ∷ xs) h =
+    let rest = seeds-few n xs (Seed y.node ∷ h) in
+    elim (y.node == n) as (λ v. births n (seeds_done xs (Seed y.node ∷ h)) ≤ length xs + (if v then births n h + 1 else births n h) → births n (seeds_done xs (Seed y.node ∷ h)) ≤ length (y ∷ xs) + births n h) [
+      | true ↦ λ rest. omega (arith, rest)
+      | false ↦ λ rest. omega (arith, rest)
+    ] rest
+
+pub wakes-few : (xs : List SeedRow) (nodes : List NodeUsed) (i : ℕ) (old : NodeUsed) → AreSeeded xs nodes → i < length nodes → old ≡ get_or nodes i old → length xs < 262144 → length old.wakes < 262144
+wakes-few xs nodes i old stands within here few =
+    let found : old ≡ get_or nodes i unused = here ∙ get_or_default nodes i old unused within in
+    let count = ap (λ (m : NodeUsed). length m.wakes) found ∙ stands.counts i in
+    let seeds = seeds-few i xs [] in
+    omega (arith, count, seeds, few)
+
+-- what all pass, the one at a place passes
+pub all-at : {A : Type 0} (p : A → Bool) (xs : List A) (i : ℕ) (d : A) → list_all p xs ≡ true → i < length xs → p (get_or xs i d) ≡ true
+all-at p [] i d all within = absurd (omega (arith, within))
+all-at p (x ∷ xs) zero d all within = (and_parts (p x) (list_all p xs) all).0
+all-at p (x ∷ xs) (suc i) d all within = all-at p xs i d (and_parts (p x) (list_all p xs) all).1 (omega (arith, within))
+
 -- ---- nothing was done
 
 start-tally : (test : Event → Bool) → ((n : ℕ) → test (Seed n) ≡ false) → ((a b : Actor) → test (Tie a b) ≡ false) → (h : List Event) → IsStart h → tally test h ≡ 0
@@ -143,3 +175,10 @@ progress-begins s nodes count seeded =
         crashes = refl;
       };
     }
+
+pub progress-begun : (s : Scripted) (nodes : List NodeUsed) (k : ℕ) (seeds : List SeedRow) (plan : Planned) (turns : ℕ) → s.nodes ≡ k → s.seeds ≡ seeds → s.plan ≡ plan → s.turns ≡ turns → length nodes ≡ k → AreSeeded seeds nodes
+    → IsProgressAt s (beginning s) (record { turns = turns; begun = 0; ended = 0; nodes = nodes; next = record { node = 0; serial = 0 }; plan = plan })
+progress-begun s nodes k seeds plan turns same_nodes same_seeds same_plan same_turns count seeded =
+    subst (λ t. IsProgressAt s (beginning s) (record { turns = t; begun = 0; ended = 0; nodes = nodes; next = record { node = 0; serial = 0 }; plan = plan })) same_turns
+    (subst (λ p. IsProgressAt s (beginning s) (record { turns = s.turns; begun = 0; ended = 0; nodes = nodes; next = record { node = 0; serial = 0 }; plan = p })) same_plan
+    (progress-begins s nodes (count ∙ sym same_nodes) (subst (λ xs. AreSeeded xs nodes) (sym same_seeds) seeded)))

@@ -124,22 +124,22 @@ kept : (s : Scripted) (e : Event) (h : List Event) (p : Used) → begun (e ∷ h
     → ((a : Actor) → can_wake s a h ≡ false → can_wake s a (e ∷ h) ≡ false) → ((f d k : ℕ) → list_any (is_lose f d k) (e ∷ h) ≡ list_any (is_lose f d k) h) → ((f d k : ℕ) → list_any (is_repeat f d k) (e ∷ h) ≡ list_any (is_repeat f d k) h)
     → IsProgressAt s h p → IsProgressAt s (e ∷ h) p
 kept s e h p turns ends ends_on wakes can loses repeats stands = (
-  let plan = stands.plan in
-  let all : Planned = s.plan in
-  record {
-    turns = stands.turns;
-    begun = stands.begun ∙ sym turns;
-    ended = stands.ended ∙ sym ends;
-    nodes = stands.nodes;
-    ended_on = λ n. stands.ended_on n ∙ sym (ends_on n);
-    wakes = λ a. stands.wakes a ∙ sym (wakes a);
-    passed = λ a below. can a (stands.passed a below);
-    plan = record {
-      losses = λ f d k. plan.losses f d k ∙ ap (λ v. has_row f d k all.losses && not v) (sym (loses f d k));
-      repeats = λ f d k. plan.repeats f d k ∙ ap (λ v. has_row f d k all.repeats && not v) (sym (repeats f d k));
-      crashes = plan.crashes;
-    };
-  })
+    let plan = stands.plan in
+    let all : Planned = s.plan in
+    record {
+      turns = stands.turns;
+      begun = stands.begun ∙ sym turns;
+      ended = stands.ended ∙ sym ends;
+      nodes = stands.nodes;
+      ended_on = λ n. stands.ended_on n ∙ sym (ends_on n);
+      wakes = λ a. stands.wakes a ∙ sym (wakes a);
+      passed = λ a below. can a (stands.passed a below);
+      plan = record {
+        losses = λ f d k. plan.losses f d k ∙ ap (λ v. has_row f d k all.losses && not v) (sym (loses f d k));
+        repeats = λ f d k. plan.repeats f d k ∙ ap (λ v. has_row f d k all.repeats && not v) (sym (repeats f d k));
+        crashes = plan.crashes;
+      };
+    })
 
 round-event : (s : Scripted) (e : Event) (h : List Event) (p : Used) → is_of_round e ≡ true → IsProgressAt s h p → IsProgressAt s (e ∷ h) p
 round-event s (Remove m n) h p of stands = kept s (Remove m n) h p refl refl (λ n. refl) (λ a. refl) (λ a e. e) (λ f d k. refl) (λ f d k. refl) stands

@@ -37,12 +37,12 @@ impl Model for Progress {
     ghost Value = { Used };
 
     ghost view = { λ p. record {
-        turns = p.turns;
-        begun = p.begun;
-        ended = p.ended;
-        nodes = p.nodes.items;
-        next = record { node = p.next_node; serial = p.next_serial };
-        plan = p.plan;
+      turns = p.turns;
+      begun = p.begun;
+      ended = p.ended;
+      nodes = p.nodes.items;
+      next = record { node = p.next_node; serial = p.next_serial };
+      plan = p.plan;
     } };
 
     ghost invariant = { λ p. length p.nodes.items ≤ 16 };
@@ -109,9 +109,7 @@ impl Progress {
         ensures after { Wakes self.old self.new actor }
         ensures stands { (s : Scripted) (h : List Event) → IsProgressAt s h self.old → IsProgressAt s (Wake actor ∷ h) self.new }
     {
-        let _turns = self.turns;
-        self.begun += 1;
-        self.nodes[actor.node().get() as usize].wake(actor.serial() as usize);
+        self.use_wake(actor);
     }
 
     /// An actor takes a message; a turn may still begin.
@@ -140,7 +138,8 @@ impl Progress {
     pub fn loses(&mut self, from: NodeId, at: NodeId, number: u32)
         requires { has_row from at number self.old.plan.losses ≡ true }
         ensures after { self.new ≡ record self.old {
-            plan = record self.old.plan { losses = filter (λ r. not (same_row (link_row from at number) r)) self.old.plan.losses } } }
+          plan = record self.old.plan { losses = filter (λ r. not (same_row (link_row from at number) r)) self.old.plan.losses };
+        } }
         ensures stands { (s : Scripted) (h : List Event) → IsProgressAt s h self.old → IsProgressAt s (Loses from at number ∷ h) self.new }
     {
         self.plan.use_loss(from, at, number);
@@ -150,7 +149,8 @@ impl Progress {
     pub fn repeats(&mut self, from: NodeId, at: NodeId, number: u32)
         requires { has_row from at number self.old.plan.repeats ≡ true }
         ensures after { self.new ≡ record self.old {
-            plan = record self.old.plan { repeats = filter (λ r. not (same_row (link_row from at number) r)) self.old.plan.repeats } } }
+          plan = record self.old.plan { repeats = filter (λ r. not (same_row (link_row from at number) r)) self.old.plan.repeats };
+        } }
         ensures stands { (s : Scripted) (h : List Event) → IsProgressAt s h self.old → IsProgressAt s (Repeats from at number ∷ h) self.new }
     {
         self.plan.use_repeat(from, at, number);
@@ -207,6 +207,17 @@ impl Progress {
             → IsProgressAt s h self.new }
     {
         self.next_serial = candidate.serial() as usize + 1;
+    }
+
+    // A turn begins with one of the actor's wakes.
+    fn use_wake(&mut self, actor: ActorId)
+        requires budget { self.old.begun < self.old.turns }
+        requires left { 0 < wakes_in self.old actor }
+        ensures { Wakes self.old self.new actor }
+    {
+        let _turns = self.turns;
+        self.begun += 1;
+        self.nodes[actor.node().get() as usize].wake(actor.serial() as usize);
     }
 
     // How many turns ended on the node.
