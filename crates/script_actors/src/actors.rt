@@ -81,17 +81,20 @@ impl ScriptActors {
         ensures err { OnErr result (self.new ≡ self.old) }
     {
         let names = own_names(self.alloc, child)?;
-        self.nodes[child.node().get() as usize].push(Row {
-            behaviour,
-            names: Some(names),
-        })
+        self.add(
+            child,
+            Row {
+                behaviour,
+                names: Some(names),
+            },
+        )
     }
 
     /// The names of a turn that ended come back to its actor. Constant time.
     pub fn rest(&mut self, actor: ActorId, names: Locals)
         requires { IsHere self.old actor }
         ensures back { SetsRow self.old self.new actor (row (behaviour_at self.old actor) (Some names)) }
-        ensures rested { (s : Scripted) (h : List Event) → AreActorsAt s h self.old → is_busy actor h ≡ true
+        ensures rested { (s : Scripted) (h : List Event) → AreActorsAt s h self.old
             → local_names names ≡ names_now s actor (Rest actor ∷ h) → AreActorsAt s (Rest actor ∷ h) self.new }
     {
         let behaviour = self.behaviour(actor);
@@ -128,6 +131,16 @@ impl ScriptActors {
             },
         );
         old.names.unwrap()
+    }
+
+    // The next actor of a node gets this row.
+    pub(crate) fn add(&mut self, child: ActorId, new: Row) -> Result<(), NoMemory>
+        requires node { child.node < length self.old }
+        requires next { child ≡ next_on self.old child.node }
+        ensures ok { OnOk result (AddsRow self.old self.new child new) }
+        ensures err { OnErr result (self.new ≡ self.old) }
+    {
+        self.nodes[child.node().get() as usize].push(new)
     }
 
     // The row is put in the place of the actor's row, which is the answer.

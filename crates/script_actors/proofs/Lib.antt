@@ -1,0 +1,5 @@
+pub mod TableLemmas
+pub mod IdleSteps
+pub mod CodeSteps
+pub mod TurnSteps
+pub mod Standings
