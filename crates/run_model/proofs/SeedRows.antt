@@ -1,7 +1,8 @@
 -- The seeds of a script, one after another: who is born, with which row.
-use Rattle.std.proofs.Common.{◌≡◌, ◌+◌, ◌≤◌, ◌<◌, ℕ, true, false, if◌then◌else◌, List, [], ◌∷◌, ◌++◌, map, Option, Some, None, refl, sym, ◌∙◌, ap, subst, arith}
+use Rattle.std.proofs.Common.{◌≡◌, ◌+◌, ◌≤◌, ◌<◌, ◌==◌, ℕ, zero, suc, Bool, true, false, if◌then◌else◌, List, [], ◌∷◌, ◌++◌, get_or, length, map, Option, Some, None, refl, sym, ◌∙◌, ap, subst, arith}
+use Rattle.std.specs.List.{list_all}
 use Rattle.std.specs.Option.{option_or}
-use Rattle.std.proofs.lemmas.Bool.{false_from_ne_true}
+use Rattle.std.proofs.lemmas.Bool.{and_parts, false_from_ne_true}
 use Rattle.crgc_ids.specs.Actor.{Actor, same_actor}
 use Rattle.history_model.specs.declared.events.Event.{Event}
 use Rattle.history_model.specs.declared.events.Event.TheVariants.{Seed}
@@ -31,6 +32,22 @@ births-grow n (y ∷ xs) h =
     let rest = births-grow n xs (Seed y.node ∷ h) in
     let one = tally-more (is_birth_on n) (Seed y.node) h in
     omega (arith, rest, one)
+
+-- no node has more seeds than there are
+pub seeds-few : (n : ℕ) (xs : List SeedRow) (h : List Event) → births n (seeds_done xs h) ≤ length xs + births n h
+seeds-few n [] h = omega arith
+seeds-few n (y ∷ xs) h =
+    let rest = seeds-few n xs (Seed y.node ∷ h) in
+    elim (y.node == n) as (λ v. births n (seeds_done xs (Seed y.node ∷ h)) ≤ length xs + (if v then births n h + 1 else births n h) → births n (seeds_done xs (Seed y.node ∷ h)) ≤ length (y ∷ xs) + births n h) [
+      | true ↦ λ rest. omega (arith, rest)
+      | false ↦ λ rest. omega (arith, rest)
+    ] rest
+
+-- what all pass, the one at a place passes
+pub all-at : {A : Type 0} (p : A → Bool) (xs : List A) (i : ℕ) (d : A) → list_all p xs ≡ true → i < length xs → p (get_or xs i d) ≡ true
+all-at p [] i d all within = absurd (omega (arith, within))
+all-at p (x ∷ xs) zero d all within = (and_parts (p x) (list_all p xs) all).0
+all-at p (x ∷ xs) (suc i) d all within = all-at p xs i d (and_parts (p x) (list_all p xs) all).1 (omega (arith, within))
 
 -- who is not born yet has no row
 pub row_of-fresh : (xs : List SeedRow) (h : List Event) (a : Actor) → births a.node (seeds_done xs h) ≤ a.serial → row_of xs h a ≡ None

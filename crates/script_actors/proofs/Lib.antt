@@ -3,3 +3,4 @@ pub mod IdleSteps
 pub mod CodeSteps
 pub mod TurnSteps
 pub mod Standings
+pub mod Beginnings

@@ -28,11 +28,11 @@ use Rattle.script_actors.proofs.TurnSteps.{passed_over}
 
 -- ---- rows
 
-each-some : {A : Type 0} (P Q : A → Type 0) (o : Option A) → ((x : A) → P x → Q x) → IfSome o P → IfSome o Q
+pub each-some : {A : Type 0} (P Q : A → Type 0) (o : Option A) → ((x : A) → P x → Q x) → IfSome o P → IfSome o Q
 each-some P Q None f h = h
 each-some P Q (Some x) f h = f x h
 
-some-of : {A : Type 0} (P : A → Type 0) (o : Option A) (x : A) → o ≡ Some x → IfSome o P → P x
+pub some-of : {A : Type 0} (P : A → Type 0) (o : Option A) (x : A) → o ≡ Some x → IfSome o P → P x
 some-of P o x e h = (let at : IfSome (Some x) P = subst (λ v. IfSome v P) e h in at)
 
 -- the row of an actor that does what it did
@@ -70,13 +70,13 @@ round-events s (e ∷ q) h t of stands = (let both = and_parts (is_of_round e) (
 -- ---- one row changes
 
 -- by whether it is the actor
-by-actor : (P : Actor → Type 0) (a : Actor) → P a → ((b : Actor) → same_actor a b ≡ false → P b) → (b : Actor) → P b
+pub by-actor : (P : Actor → Type 0) (a : Actor) → P a → ((b : Actor) → same_actor a b ≡ false → P b) → (b : Actor) → P b
 by-actor P a here others b = elim (same_actor a b) as (λ v. same_actor a b ≡ v → P b) [
   | true ↦ λ same. subst P (same_actor-equal a b same) here
   | false ↦ λ other. others b other
 ] refl
 
-apart : (a b : Actor) → same_actor a b ≡ false → b ≢ a
+pub apart : (a b : Actor) → same_actor a b ≡ false → b ≢ a
 apart a b other same = false≢true (sym other ∙ subst (λ x. same_actor a x ≡ true) (sym same) (same_actor-refl a))
 
 sets-stands : (s : Scripted) (e : Event) (h : List Event) (a : Actor) (old new : Table) (r : Row) → AreActorsAt s h old → SetsRow old new a r → IsHere old a → ((n : ℕ) → births n (e ∷ h) ≡ births n h) → IsRowOf s (e ∷ h) a r

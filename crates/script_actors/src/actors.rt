@@ -108,7 +108,7 @@ impl ScriptActors {
     }
 
     // The number of the actor's behaviour.
-    fn behaviour(&self, actor: ActorId) -> u32
+    pub(crate) fn behaviour(&self, actor: ActorId) -> u32
         ensures { result ≡ behaviour_at self.now actor }
     {
         match self.nodes.get(actor.node().get() as usize) {
@@ -118,7 +118,7 @@ impl ScriptActors {
     }
 
     // The names of an actor that has that behaviour are taken out.
-    fn take_names(&mut self, actor: ActorId, behaviour: u32) -> Locals
+    pub(crate) fn take_names(&mut self, actor: ActorId, behaviour: u32) -> Locals
         requires { IsSome (names_at self.old actor) }
         ensures names { names_at self.old actor ≡ Some result }
         ensures out { SetsRow self.old self.new actor (row behaviour None) }

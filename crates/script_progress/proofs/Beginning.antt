@@ -17,7 +17,7 @@ use Rattle.script_reader.specs.declared.script.Seed.{Seed as SeedRow}
 use Rattle.run_model.specs.Doing.{beginning, row_of}
 use Rattle.run_model.specs.Planned.{has_row, is_begin, is_rest, is_rest_on, is_wake_of, wakes_of}
 use Rattle.run_model.proofs.Beginnings.{IsStart, beginning-start}
-use Rattle.run_model.proofs.SeedRows.{row_of-last, row_of-others, seeds_done, seeds_done-snoc}
+use Rattle.run_model.proofs.SeedRows.{row_of-last, row_of-others, seeds-few, seeds_done, seeds_done-snoc}
 use Rattle.script_progress.specs.Used.{NodeUsed, Used, unused}
 use Rattle.script_progress.specs.Standing.{AreSeeded, IsProgressAt}
 
@@ -115,28 +115,13 @@ seeded-set xs more nodes x i old new stands e at within here pushed =
     (subst (λ n. AreSeeded (xs ++ x ∷ []) (set nodes n new)) (sym at)
     (subst (λ m. AreSeeded (xs ++ x ∷ []) (set nodes x.node m)) (sym (pushed ∙ ap (λ m. with_seed m x.wakes) found)) (seeded-next xs nodes x stands within)))
 
--- no node has more seeds than there are
-seeds-few : (n : ℕ) (xs : List SeedRow) (h : List Event) → births n (seeds_done xs h) ≤ length xs + births n h
-seeds-few n [] h = omega arith
-seeds-few n (y ∷ xs) h =
-    let rest = seeds-few n xs (Seed y.node ∷ h) in
-    elim (y.node == n) as (λ v. births n (seeds_done xs (Seed y.node ∷ h)) ≤ length xs + (if v then births n h + 1 else births n h) → births n (seeds_done xs (Seed y.node ∷ h)) ≤ length (y ∷ xs) + births n h) [
-      | true ↦ λ rest. omega (arith, rest)
-      | false ↦ λ rest. omega (arith, rest)
-    ] rest
-
+-- so no row is too long
 pub wakes-few : (xs : List SeedRow) (nodes : List NodeUsed) (i : ℕ) (old : NodeUsed) → AreSeeded xs nodes → i < length nodes → old ≡ get_or nodes i old → length xs < 262144 → length old.wakes < 262144
 wakes-few xs nodes i old stands within here few =
     let found : old ≡ get_or nodes i unused = here ∙ get_or_default nodes i old unused within in
     let count = ap (λ (m : NodeUsed). length m.wakes) found ∙ stands.counts i in
     let seeds = seeds-few i xs [] in
     omega (arith, count, seeds, few)
-
--- what all pass, the one at a place passes
-pub all-at : {A : Type 0} (p : A → Bool) (xs : List A) (i : ℕ) (d : A) → list_all p xs ≡ true → i < length xs → p (get_or xs i d) ≡ true
-all-at p [] i d all within = absurd (omega (arith, within))
-all-at p (x ∷ xs) zero d all within = (and_parts (p x) (list_all p xs) all).0
-all-at p (x ∷ xs) (suc i) d all within = all-at p xs i d (and_parts (p x) (list_all p xs) all).1 (omega (arith, within))
 
 -- ---- nothing was done
 

@@ -2,7 +2,8 @@ use Rattle.std.proofs.Common.{◌≡◌, ◌<◌, ◌+◌, ◌∷◌, ◌++◌, 
 use Rattle.std.proofs.lemmas.Bool.{ltb-true}
 use Rattle.std.proofs.lemmas.List.{length-set, length-take-le, take_more}
 use Rattle.script_reader.specs.declared.script.Seed.{Seed as SeedRow}
-use Rattle.script_progress.proofs.Beginning.{all-at, seeded-set, wakes-few}
+use Rattle.run_model.proofs.SeedRows.{all-at}
+use Rattle.script_progress.proofs.Beginning.{seeded-set, wakes-few}
 use Rattle.script_progress.proofs.begin.add_seeds.Goals as goal
 
 pub push-requires : goal.push-requires
