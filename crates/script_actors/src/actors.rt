@@ -61,7 +61,8 @@ impl ScriptActors {
         ensures wake { IfOk result (λ t. (s : Scripted) (h : List Event) → AreActorsAt s h self.old
             → list ≡ lists.Wake → refs ≡ [] → root ≡ is_root actor h → IsTurnOf s actor (Wake actor ∷ h) t) }
         ensures take { IfOk result (λ t. (s : Scripted) (h : List Event) → AreActorsAt s h self.old
-            → list ≡ lists.Message → refs ≡ first_refs (waiting actor h) → root ≡ is_root actor h → IsTurnOf s actor (Take actor ∷ h) t) }
+            → list ≡ lists.Message → refs ≡ first_refs (waiting actor h) → root ≡ is_root actor h
+            → IsTurnOf s actor (Take actor ∷ h) t) }
     {
         let behaviour = self.behaviour(actor);
         let names = self.take_names(actor, behaviour);

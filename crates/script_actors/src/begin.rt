@@ -98,7 +98,8 @@ impl ScriptActors {
     // The actor binds the name, which is not bound in it.
     fn bind(&mut self, actor: ActorId, name: &Octets, target: ActorId) -> Result<(), NoMemory>
         requires here { IsSome (names_at self.old actor) }
-        requires free { (names : List (List ℕ × Actor)) → names_at self.old actor ≡ Some names → bound (Local name.now) (local_names names) ≡ None }
+        requires free { (names : List (List ℕ × Actor)) → names_at self.old actor ≡ Some names
+            → bound (Local name.now) (local_names names) ≡ None }
         ensures { OnOk result (Binds self.old self.new actor name.now target) }
     {
         let behaviour = self.behaviour(actor);

@@ -19,10 +19,17 @@ use Rattle.run_model.specs.Doing.{row_of}
 abbrev pub can_wake : Scripted → Actor → List Event → Bool
 can_wake s a h = nat_lt 0 (wakes_left s a h) && (is_root a h && is_up a.node h)
 
+-- the copy has a row that no event used
+abbrev pub has_loss : Scripted → List Event → ℕ → ℕ → ℕ → Bool
+has_loss s h f d k = (let all : Planned = s.plan in has_row f d k all.losses) && not (list_any (is_lose f d k) h)
+
+abbrev pub has_repeat : Scripted → List Event → ℕ → ℕ → ℕ → Bool
+has_repeat s h f d k = (let all : Planned = s.plan in has_row f d k all.repeats) && not (list_any (is_repeat f d k) h)
+
 -- the rows that are left are those of the script that no event used
 pub record IsPlanAt (s : Scripted) (h : List Event) (plan : Planned) : Type 0 where
-  pub losses : (f d k : ℕ) → has_row f d k plan.losses ≡ ((let all : Planned = s.plan in has_row f d k all.losses) && not (list_any (is_lose f d k) h))
-  pub repeats : (f d k : ℕ) → has_row f d k plan.repeats ≡ ((let all : Planned = s.plan in has_row f d k all.repeats) && not (list_any (is_repeat f d k) h))
+  pub losses : (f d k : ℕ) → has_row f d k plan.losses ≡ has_loss s h f d k
+  pub repeats : (f d k : ℕ) → has_row f d k plan.repeats ≡ has_repeat s h f d k
   pub crashes : plan.crashes ≡ (let all : Planned = s.plan in all.crashes)
 
 -- the progress stands at the history; nobody before the first seed that may have a wake left can be woken any more

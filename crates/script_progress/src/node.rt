@@ -67,6 +67,7 @@ impl NodeProgress {
 
     /// The first seed from this one on that has a wake left; None where there is none. Linear time in those that have none.
     pub fn next_with_wakes(&self, from: usize) -> Option<usize>
+        ensures from { IfSome result (λ i. from ≤ i) }
         ensures left { IfSome result (λ i. 0 < get_or self.now.wakes i 0) }
         ensures passed { IfSome result (λ i. (k : ℕ) → from ≤ k → k < i → get_or self.now.wakes k 0 ≡ 0) }
         ensures in_range { IfSome result (λ i. i < 262144) }

@@ -91,7 +91,8 @@ impl Progress {
     /// What happens to the copy on the link. Logarithmic time.
     pub fn carry_of(&self, from: NodeId, at: NodeId, number: u32) -> Carry
         ensures value { result ≡ carry_in self.now.plan from at number }
-        ensures stands { (s : Scripted) (h : List Event) → IsProgressAt s h self.now → carry s from at number h ≡ carried result from at number }
+        ensures stands { (s : Scripted) (h : List Event) → IsProgressAt s h self.now
+            → carry s from at number h ≡ carried result from at number }
     {
         if self.plan.repeats(from, at, number) {
             Carry::Repeat
