@@ -29,7 +29,7 @@ impl ScriptActors {
     }
 
     // Nodes on which nobody was born.
-    fn without_actors(alloc: Global, nodes: u8) -> Result<ScriptActors, NoMemory>
+    pub(crate) fn without_actors(alloc: Global, nodes: u8) -> Result<ScriptActors, NoMemory>
         ensures { IfOk result (λ t. (length t ≡ nodes) × ((n : ℕ) → rows_on t n ≡ [])) }
     {
         let mut rows = Vec::new(alloc);
@@ -59,7 +59,7 @@ impl ScriptActors {
     }
 
     // The next actor of the node is born.
-    fn add_seed(&mut self, node: NodeId, behaviour: u32) -> Result<ActorId, NoMemory>
+    pub(crate) fn add_seed(&mut self, node: NodeId, behaviour: u32) -> Result<ActorId, NoMemory>
         requires node { node < length self.old }
         requires room { length (rows_on self.old node) < 262144 }
         ensures actor { IfOk result (λ a. a ≡ next_on self.old node) }
@@ -72,7 +72,7 @@ impl ScriptActors {
     }
 
     // The actor that is born next on the node.
-    fn next_actor(&self, node: NodeId) -> ActorId
+    pub(crate) fn next_actor(&self, node: NodeId) -> ActorId
         requires node { node < length self.now }
         requires room { length (rows_on self.now node) < 262144 }
         ensures { result ≡ next_on self.now node }
