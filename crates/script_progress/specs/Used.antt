@@ -84,3 +84,7 @@ ArePassed p a = (b : Actor) → IsActorBelow b a → IsActorBelow b p.next ⊎ (
 -- so has each actor of a node that the progress has
 abbrev pub AreAllPassed : Used → Type 0
 AreAllPassed p = (b : Actor) → b.node < length p.nodes → IsActorBelow b p.next ⊎ (wakes_in p b ≡ 0)
+
+-- the second actor is the first one, or above it
+abbrev pub IsFrom : Actor → Actor → Type 0
+IsFrom a b = (a.node < b.node) ⊎ ((a.node ≡ b.node) × (a.serial ≤ b.serial))

@@ -8,7 +8,7 @@ ghost use Rattle.history_model.specs.declared.events.Event.TheVariants.{Lose as 
 ghost use Rattle.fault_plan.specs.Rows.{link_row, same_row};
 ghost use Rattle.script_reader.specs.Valid.{Scripted};
 ghost use Rattle.run_model.specs.Planned.{carry, crash_due, ended, has_row, is_within_budget, wakes_left};
-ghost use Rattle.script_progress.specs.Used.{AreAllPassed, ArePassed, Ends, HasRoom, Wakes, carried, carry_in, ended_in, is_crash_due, wakes_in, with_turn};
+ghost use Rattle.script_progress.specs.Used.{AreAllPassed, ArePassed, Ends, HasRoom, IsFrom, Wakes, carried, carry_in, ended_in, is_crash_due, wakes_in, with_turn};
 ghost use Rattle.script_progress.specs.Standing.{IsProgressAt, can_wake};
 
 use crate::carry::Carry;
@@ -164,6 +164,7 @@ impl Progress {
         ensures left { IfSome result (λ c. 0 < wakes_in self.new c) }
         ensures none { IfNone result (length self.new.nodes ≤ self.new.next.node) }
         ensures others { self.new ≡ record self.old { next = self.new.next } }
+        ensures forward { IfSome result (IsFrom self.old.next) }
         ensures passed { ArePassed self.old self.new.next }
         ensures stands { (s : Scripted) (h : List Event) → IsProgressAt s h self.old → IsProgressAt s h self.new }
     {
@@ -184,6 +185,7 @@ impl Progress {
     // The first seed that was not passed and has a wake left.
     fn next_with_wakes(&self) -> Option<ActorId>
         ensures left { IfSome result (λ c. 0 < wakes_in self.now c) }
+        ensures forward { IfSome result (IsFrom self.now.next) }
         ensures passed { IfSome result (ArePassed self.now) }
         ensures none { IfNone result (AreAllPassed self.now) }
     {
