@@ -17,3 +17,5 @@ pub mod SeedsLegal
 pub mod ReadScripts
 pub mod FirstLimits
 pub mod TurnsDue
+pub mod SeedRows
+pub mod LowestActors

@@ -33,7 +33,7 @@ start-root a (Tie b c) p start root = root
 start-root a e p start root = absurd start
 
 -- an idle root that was born
-abbrev IsSeeded : Actor → List Event → Type 0
+abbrev pub IsSeeded : Actor → List Event → Type 0
 IsSeeded a h = IsTrue (is_born a h) × (is_root a h ≡ true)
 
 seeded-more : (a : Actor) (e : Event) (p : List Event) → IsStart (e ∷ p) → IsSeeded a p → IsSeeded a (e ∷ p)
@@ -45,7 +45,7 @@ seeded-later a (x ∷ seeds) h start there = seeded-later a seeds (Seed x.node �
 
 module _ (d : Actor) where
   -- each seed is born as a root, and was not born before
-  seed-seeded : (seeds : List SeedRow) (h : List Event) → IsStart h → (i : ℕ) → i < length seeds → IsSeeded (get_or (seeded seeds h) i d) (onto h (map (λ (x : SeedRow). Seed x.node) seeds))
+  pub seed-seeded : (seeds : List SeedRow) (h : List Event) → IsStart h → (i : ℕ) → i < length seeds → IsSeeded (get_or (seeded seeds h) i d) (onto h (map (λ (x : SeedRow). Seed x.node) seeds))
   seed-seeded [] h start i below = absurd (omega (arith, below))
   seed-seeded (x ∷ seeds) h start zero below =
       let c = newborn x.node h in
@@ -66,7 +66,7 @@ module _ (d : Actor) where
   first-differs x seeds h j below same =
       false≢true (sym (seed-new seeds (Seed x.node ∷ h) j below) ∙ subst (λ a. is_born a (Seed x.node ∷ h) ≡ true) same (newborn-born x.node (Seed x.node) h (eqb-refl x.node)))
 
-  seeds-differ : (seeds : List SeedRow) (h : List Event) (i j : ℕ) → i < length seeds → j < length seeds → (i ≡ j → ⊥) → get_or (seeded seeds h) i d ≡ get_or (seeded seeds h) j d → ⊥
+  pub seeds-differ : (seeds : List SeedRow) (h : List Event) (i j : ℕ) → i < length seeds → j < length seeds → (i ≡ j → ⊥) → get_or (seeded seeds h) i d ≡ get_or (seeded seeds h) j d → ⊥
   seeds-differ [] h i j first second apart same = absurd (omega (arith, first))
   seeds-differ (x ∷ seeds) h zero zero first second apart same = apart refl
   seeds-differ (x ∷ seeds) h zero (suc j) first second apart same = first-differs x seeds h j (omega (arith, second)) same
