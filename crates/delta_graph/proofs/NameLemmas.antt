@@ -1,23 +1,25 @@
 -- Names that are sorted, each kept once, and rows that count alike: how many different actors there are.
-use Rattle.std.proofs.Common.{◌≡◌, ◌||◌, Bool, true, false, cond, List, [], ◌∷◌, length, refl, sym, ◌∙◌, ap}
+use Rattle.std.proofs.Common.{◌≡◌, ◌||◌, ◌+◌, ◌≤◌, suc, Bool, true, false, cond, List, [], ◌∷◌, length, length-append, refl, sym, ◌∙◌, ap, arith}
+use Rattle.std.proofs.lemmas.List.{length-map}
 use Rattle.std.proofs.lemmas.List.Sorted.{list_any-IsPermutation}
 use Rattle.std.specs.Bool.{⊤}
 use Rattle.std.specs.List.{dedup, dedup_from, list_any}
 use Rattle.std.specs.List.Retain.{DedupsAll, DedupsFrom}
 use Rattle.std.specs.List.Sorted.{IsPermutation, IsSorted}
-use Rattle.crgc_ids.specs.Actor.{Actor, IsActorBelow, same_actor}
+use Rattle.crgc_ids.specs.Actor.{Actor, IsActorBelow, is_actor_below, same_actor}
+use Rattle.crgc_ids.specs.declared.rising.PairCount.{PairCount}
 use Rattle.crgc_ids.proofs.ActorLaws.{IsActorBelow-apart, IsActorBelow-trans, same_actor-decides}
 use Rattle.crgc_ids.proofs.ActorOrder.{actor_cmp}
 use Rattle.crgc_ids.proofs.KeyOrders.{actor_order}
 use Rattle.crgc_ids.proofs.RisingLaws.{rising-same}
-use Rattle.history_model.specs.Graph.{rising_actors}
-use Rattle.history_model.specs.Ledgers.{CountAlike, CountFromOne, Ledger, ledger_counts, ledger_names}
+use Rattle.history_model.specs.Graph.{insert_actor, rising_actors}
+use Rattle.history_model.specs.Ledgers.{CountAlike, CountFromOne, Ledger, ledger_counts, ledger_names, pair_names}
 use Rattle.history_model.proofs.Basics.{same_actor-sym}
 use Rattle.history_model.proofs.RisingActors.{among-decides, rising-among, rising_actors-rise, rising_actors-same}
 use Rattle.history_model.proofs.TellsCounts.{alike-back}
 use Rattle.history_model.proofs.TellsNames.{named-alike, rows-named}
 use Rattle.row_sums.proofs.FoldLemmas.{Folds, IsReading, is_fold}
-use Rattle.delta_graph.proofs.StateLemmas.{actors-sorted}
+use Rattle.row_sums.proofs.RowLemmas.{actors-sorted}
 
 -- ---- sorted names, each kept once
 
@@ -70,6 +72,36 @@ count-different names sorted left moved up is =
     (λ a h. (rising-among a names).1 ((among-decides names a).0 (sym (same a) ∙ (among-decides ys a).1 h)))
     (λ a h. (among-decides ys a).0 (same a ∙ (among-decides names a).1 ((rising-among a names).0 h))) in
     ap length (is ∙ all)
+
+-- ---- how many names there are
+
+-- a name more is one more at most
+inserted-length : (a : Actor) (bs : List Actor) → length (insert_actor a bs) ≤ suc (length bs)
+inserted-length a [] = omega arith
+inserted-length a (b ∷ bs) =
+    let later = inserted-length a bs in
+    let Fits : List Actor → Type 0 = λ l. length l ≤ suc (suc (length bs)) in
+    let apart : Fits (cond (is_actor_below a b) (a ∷ b ∷ bs) (b ∷ insert_actor a bs)) = elim (is_actor_below a b) as (λ v. Fits (cond v (a ∷ b ∷ bs) (b ∷ insert_actor a bs))) [ true ↦ omega arith | false ↦ omega arith ] in
+    elim (same_actor a b) as (λ v. Fits (cond v (b ∷ bs) (cond (is_actor_below a b) (a ∷ b ∷ bs) (b ∷ insert_actor a bs)))) [ true ↦ omega arith | false ↦ apart ]
+
+-- there are no more different actors than names
+pub different-bound : (names : List Actor) → length (rising_actors names) ≤ length names
+different-bound [] = omega arith
+different-bound (a ∷ names) =
+    let later = different-bound names in
+    let here = inserted-length a (rising_actors names) in
+    omega arith
+
+-- a pair has two names
+pub pairs-length : (rows : List PairCount) → length (pair_names rows) ≡ length rows + length rows
+pairs-length [] = refl
+pairs-length (r ∷ rows) = let later = pairs-length rows in omega arith
+
+-- so many names the rows of a ledger have
+pub names-length : (l : Ledger) → length (ledger_names l) ≡ (length l.states + length l.sent) + ((length l.created + length l.released) + (length l.created + length l.released))
+names-length l =
+    simp (length-append, length-map)
+    (let created = pairs-length l.created in let released = pairs-length l.released in omega arith)
 
 -- ---- rows that count alike
 

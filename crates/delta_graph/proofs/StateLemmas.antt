@@ -1,33 +1,20 @@
 -- States that are sorted and added up.
 use Rattle.std.proofs.Common.{◌≡◌, ◌+◌, ◌<◌, ◌^◌, ◌&&◌, ℕ, Bool, true, false, cond, not, min, List, [], ◌∷◌, Ordering, refl, sym, ◌∙◌, ap, subst, inl, inr, arith}
-use Rattle.std.proofs.lemmas.Bool.{false≢true}
 use Rattle.std.proofs.lemmas.List.Sums.{sum_by-cons}
 use Rattle.std.specs.List.{filter}
-use Rattle.std.specs.Ordering.{MatchOrdering, is_lt}
+use Rattle.std.specs.Ordering.{is_lt}
 use Rattle.std.specs.Prelude.{Option, Some, unwrap_or}
-use Rattle.std.specs.declared.cmp.Ordering.TheVariants.{Equal, Greater, Less}
 use Rattle.crgc_ids.specs.Actor.{Actor, IsActorBelow, same_actor}
 use Rattle.crgc_ids.proofs.ActorLaws.{IsActorBelow-apart, actor_cases, same_actor-apart, same_actor-decides}
-use Rattle.crgc_ids.proofs.ActorOrder.{actor_cmp, actor_cmp-above, actor_cmp-below, actor_cmp-same, actor_cmp-tells}
+use Rattle.crgc_ids.proofs.ActorOrder.{actor_cmp, actor_cmp-above, actor_cmp-below, actor_cmp-same}
 use Rattle.history_model.specs.declared.records.StateRow.{StateRow}
 use Rattle.history_model.specs.Facts.{Flags}
 use Rattle.history_model.specs.Ledgers.{received_total, row_flags, state_flags}
-use Rattle.row_sums.proofs.FoldLemmas.{AtMost, Folds, IsReading}
+use Rattle.row_sums.proofs.FoldLemmas.{Folds, IsReading}
 use Rattle.row_sums.proofs.RowLemmas.{takes_in}
 use Rattle.row_sums.proofs.SumLemmas.{taken-total}
 
 -- ---- the order of actors
-
--- of two actors in their order the first is not above the second
-pub actors-sorted : (a b : Actor) → is_lt (actor_cmp b a) ≡ false → AtMost IsActorBelow a b
-actors-sorted a b h =
-    let Case : Ordering → Type 0 = λ o. MatchOrdering o (IsActorBelow b a) (b ≡ a) (IsActorBelow a b) → is_lt o ≡ false → AtMost IsActorBelow a b in
-    let case : Case (actor_cmp b a) = elim (actor_cmp b a) as Case [
-      | Less ↦ λ _ t. absurd (false≢true (sym t))
-      | Equal ↦ λ same _. inl (sym same)
-      | Greater ↦ λ above _. inr above
-    ] in
-    case (actor_cmp-tells b a) h
 
 -- actors of which neither is below the other are one
 ties-same : (a b : Actor) → (not (is_lt (actor_cmp a b)) && not (is_lt (actor_cmp b a))) ≡ same_actor a b

@@ -7,7 +7,7 @@ ghost use Rattle.delta_graph.specs.Sums.{CountsFit, IsFaultOf, named_count};
 
 use crate::fault::DeltaFault;
 use crate::gathered::{created_of, released_of, sent_of, states_of};
-use crate::names::named_in;
+use crate::names::names_too_many;
 use crate::states::sum_of_states;
 use crgc_ids::{NoMemory, NodeId};
 use history_model::{Delta, Entry};
@@ -25,7 +25,7 @@ pub fn delta_of(alloc: Global, node: NodeId, entries: &[Entry]) -> Result<Delta,
     ensures fault { IfErr result (λ f. IsFaultOf entries.now f) }
 {
     let delta = sum_of(alloc, node, entries)?;
-    if named_in(alloc, &delta)? > 200_000 {
+    if names_too_many(alloc, &delta)? {
         return Err(DeltaFault::TableFull);
     }
     Ok(delta)

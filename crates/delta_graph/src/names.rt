@@ -1,14 +1,35 @@
 //! The actors that a Delta names.
-ghost use Rattle.std.specs.Prelude.{◌≡◌, ◌++◌, IfOk, OnOk, length, map};
+ghost use Rattle.std.specs.Prelude.{◌≡◌, ◌++◌, IfOk, OnOk, length, map, min, nat_lt};
 ghost use Rattle.history_model.specs.Graph.{rising_actors};
 ghost use Rattle.history_model.specs.Ledgers.{delta_ledger, ledger_names, pair_names};
 
 use crgc_ids::{ActorCount, ActorId, NoMemory, PairCount};
 use history_model::{Delta, StateRow};
+use row_sums::compare_actors;
 use std::alloc::Global;
 
+/// Whether the rows of a Delta name more than 200,000 different actors. Constant time where they have too few names for that,
+/// and else in proportion to n log n for n rows.
+pub fn names_too_many(alloc: Global, delta: &Delta) -> Result<bool, NoMemory>
+    ensures { IfOk result (λ b. b ≡ nat_lt 200000 (length (rising_actors (ledger_names (delta_ledger delta.now))))) }
+{
+    if names_of(delta) <= 200_000 {
+        return Ok(false);
+    }
+    Ok(named_in(alloc, delta)? > 200_000)
+}
+
+/// How many names the rows of a Delta have, as far as 64 bits count.
+fn names_of(delta: &Delta) -> usize
+    ensures { result ≡ min (length (ledger_names (delta_ledger delta.now))) 18446744073709551615 }
+{
+    let pairs = delta.created.len().saturating_add(delta.released.len());
+    let counts = delta.states.len().saturating_add(delta.sent.len());
+    counts.saturating_add(pairs.saturating_add(pairs))
+}
+
 /// How many different actors the rows of a Delta name. Time in proportion to n log n for n rows.
-pub fn named_in(alloc: Global, delta: &Delta) -> Result<usize, NoMemory>
+fn named_in(alloc: Global, delta: &Delta) -> Result<usize, NoMemory>
     ensures { IfOk result (λ n. n ≡ length (rising_actors (ledger_names (delta_ledger delta.now)))) }
 {
     let mut names = Vec::new(alloc);
@@ -24,7 +45,7 @@ fn count_different(names: Vec<ActorId>) -> usize
     ensures { result ≡ length (rising_actors names.items) }
 {
     let mut names = names;
-    names.sort_unstable();
+    names.sort_unstable_by(|a, b| compare_actors(*a, *b));
     names.dedup();
     names.len()
 }

@@ -6,6 +6,7 @@ ghost use Rattle.history_model.specs.Ledgers.{received_total, row_flags};
 
 use crgc_ids::NoMemory;
 use history_model::{StateRow, StateRows};
+use row_sums::compare_actors;
 
 /// The states added up: those of one actor become one, which counts the messages of all, and has the flags of the last.
 /// Time in proportion to n log n for n states.
@@ -27,7 +28,7 @@ fn add_up_states(rows: &mut Vec<StateRow>) -> Result<(), NoMemory>
     ensures received { OnOk result ((a : Actor) → received_total a rows.new.items ≡ received_total a rows.old.items) }
     ensures flags { OnOk result ((a : Actor) → row_flags a rows.new.items ≡ row_flags a rows.old.items) }
 {
-    match rows.sort_by_key(|row| row.actor) {
+    match rows.sort_by(|r, s| compare_actors(r.actor, s.actor)) {
         Ok(()) => {
             rows.dedup_by(|next, last| take_in_state(last, next));
             Ok(())

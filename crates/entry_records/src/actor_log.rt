@@ -71,6 +71,7 @@ impl ActorLog {
             flushed: None,
             notes: Notes::new(alloc),
         };
+        log.notes.reserve_birth()?;
         log.note_created(actor, actor)?;
         if let Some(owner) = parent {
             log.note_created(owner, actor)?;

@@ -51,6 +51,16 @@ impl Notes {
         }
     }
 
+    /// Room for the two references that a birth makes at most, and no more. After `NoMemory` all is as before.
+    pub fn reserve_birth(&mut self) -> Result<(), NoMemory>
+        ensures { self.new ≡ self.old }
+    {
+        match self.created.reserve_exact(2) {
+            Ok(()) => Ok(()),
+            Err(_) => Err(NoMemory),
+        }
+    }
+
     /// One message more was taken.
     pub fn add_received(&mut self)
         requires { self.old.received + 1 < 2 ^ 32 }

@@ -102,10 +102,14 @@ fn write_actor(out: &mut Vec<u8>, actor: ActorId) -> Result<(), NoMemory>
     write_number(out, actor.serial() as u64)
 }
 
+#[tactic(auto, using(std::proofs::lemmas::Fmt::decimal_digit))]
 fn write_number(out: &mut Vec<u8>, n: u64) -> Result<(), NoMemory>
     ensures ok { OnOk result (out.new.items ≡ out.old.items ++ decimal n) }
     ensures err { OnErr result (BeginsWith out.old.items out.new.items) }
 {
+    if n < 10 {
+        return write(out, &[b'0' + n as u8]);
+    }
     let mut buffer = Buffer::new();
     write(out, buffer.format(n).as_bytes())
 }

@@ -8,6 +8,7 @@ ghost use Rattle.graph_wire.specs.Rises.{KeysRise, DeltaRises, WindowRises};
 
 use crgc_ids::{ActorCount, ActorId, NoMemory, PairCount};
 use history_model::{Bulletin, Delta, StateRow, Window};
+use row_sums::compare_actors;
 use std::alloc::Global;
 
 /// Puts the actor last.
@@ -99,7 +100,7 @@ fn sorted(names: Vec<ActorId>) -> Result<Vec<ActorId>, NoMemory>
     ensures { IfOk result (λ v. v.items ≡ table_of names.items) }
 {
     let mut table = names;
-    match table.sort() {
+    match table.sort_by(|a, b| compare_actors(*a, *b)) {
         Ok(()) => {
             table.dedup();
             Ok(table)

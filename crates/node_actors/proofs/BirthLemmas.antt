@@ -1,9 +1,8 @@
 -- A birth that is taken back.
-use Rattle.std.proofs.Common.{◌≡◌, ◌≢◌, ◌+◌, ◌≤◌, ℕ, length, refl, sym, ◌∙◌, ap, ap₂, subst, inl, inr, arith}
+use Rattle.std.proofs.Common.{◌≡◌, ◌≢◌, ◌≤◌, ℕ, length, refl, sym, ◌∙◌, ap, subst, inl, inr, arith}
 use Rattle.std.proofs.lemmas.Bool.{cases_eq}
 use Rattle.std.proofs.lemmas.List.{get_or_past}
 use Rattle.crgc_ids.specs.Actor.{Actor}
-use Rattle.refob_counts.specs.Counts.{count_of}
 use Rattle.actor_states.specs.State.{IsAlike, State, blank_state}
 use Rattle.node_actors.specs.Node.{AreAlike, Bears, NodeState, next_actor, state_in}
 

@@ -1,5 +1,5 @@
 -- What is kept beside the states of a node's actors, where the state of one changed or one more was born.
-use Rattle.std.proofs.Common.{◌≡◌, ◌≢◌, ◌+◌, ◌<◌, ◌≤◌, ◌==◌, ◌&&◌, ◌||◌, not, ℕ, Bool, true, false, nat_lt, cond, List, [], ◌∷◌, Option, None, Some, IsSome, option_to_list, ◌++◌, count_by, get_or, length, set, length-set, length-append, Result, Ok, Err, OnOk, OnErr, refl, sym, ◌∙◌, ap, ap₂, subst, inl, inr, arith}
+use Rattle.std.proofs.Common.{◌≡◌, ◌+◌, ◌<◌, ◌==◌, ◌&&◌, ◌||◌, not, ℕ, Bool, true, false, nat_lt, cond, List, [], ◌∷◌, Option, None, Some, IsSome, option_to_list, ◌++◌, count_by, get_or, length, set, length-set, length-append, Result, Ok, Err, OnOk, OnErr, refl, sym, ◌∙◌, ap, ap₂, subst, inl, inr, arith}
 use Rattle.std.proofs.lemmas.Bool.{and_from, and_parts, and_right, cases_lt, cond-false, cond-true, cond_both, eq-eqb, eqb-true, false≢true, le-ltb, lt-ltb, ne_eqb}
 use Rattle.std.proofs.lemmas.List.{get_or_append_left, get_or_default, get_or-set_other, get_or-set_same}
 use Rattle.std.proofs.Math.Seq.{get_or-append_seam}
@@ -12,7 +12,7 @@ use Rattle.entry_records.specs.Unflushed.{Unflushed, is_nothing}
 use Rattle.entry_records.proofs.LogLemmas.{nothing-blank}
 use Rattle.actor_states.specs.State.{State, blank_state, flags_of, has_news}
 use Rattle.node_actors.specs.Keeping.{IsKept, IsSettled, is_due_among}
-use Rattle.node_actors.specs.Node.{ChangesIn, NodeState, state_in}
+use Rattle.node_actors.specs.Node.{ChangesIn, IsThere, NodeState, state_in}
 
 -- what holds at a success and at a failure holds
 pub either_way : {A E : Type 0} (X P Q : Type 0) (r : Result A E) → OnOk r P → OnErr r Q → (P → X) → (Q → X) → X
@@ -136,6 +136,39 @@ sent-news s some =
         ap (λ v. (n.received == 0) && (v && ((length n.created == 0) && (length n.released == 0)))) (ne_eqb (length n.sent) 0 (λ e. omega (arith, some, e)))
         ∙ neither (n.received == 0)
 
+-- the place of an actor that was born is one of the list
+pub born-below : (number : ℕ) (up : Bool) (actors : List State) (n : NodeState) (i serial : ℕ) → record { number = number; up = up; actors = actors } ≡ n → i ≡ serial → serial < length n.actors → i < length actors
+born-below number up actors n i serial view e born =
+    let same = ap (λ (m : NodeState). length m.actors) view in
+    omega arith
+
+-- an actor with something to tell is due
+pub news-due : (number : ℕ) (up : Bool) (busy stopped : ℕ) (actors : List State) (due : List Actor) (i : ℕ) (s : State) (actor : Actor)
+    → IsKept number up busy stopped actors due
+    → i < length actors
+    → s ≡ get_or actors i s
+    → record { node = number; serial = i } ≡ actor
+    → has_news s ≡ true
+    → has_actor due actor ≡ true
+news-due number up busy stopped actors due i s actor kept below here itself news =
+    due-still number up busy stopped actors due i s s kept below here refl actor
+    ∙ cond-true (same_actor (record { node = number; serial = i }) actor) (has_news s) (has_actor due actor) ((same_actor-decides (record { node = number; serial = i }) actor).1 itself)
+    ∙ news
+
+-- so it is with one that is there
+pub there-due : (number : ℕ) (up : Bool) (busy stopped : ℕ) (actors : List State) (due : List Actor) (n : NodeState) (i : ℕ) (s : State) (actor : Actor)
+    → IsKept number up busy stopped actors due
+    → record { number = number; up = up; actors = actors } ≡ n
+    → IsThere n actor
+    → i ≡ actor.serial
+    → s ≡ get_or actors i s
+    → has_news s ≡ true
+    → has_actor due actor ≡ true
+there-due number up busy stopped actors due n i s actor kept view there place here news =
+    let below = born-below number up actors n i actor.serial view place there.born in
+    let node : number ≡ actor.node = ap (λ (m : NodeState). m.number) view ∙ sym there.here in
+    news-due number up busy stopped actors due i s actor kept below here (same_parts (record { node = number; serial = i }) actor node place) news
+
 -- so the actor that noted one is due
 pub sent-due : (number : ℕ) (up : Bool) (busy stopped : ℕ) (actors : List State) (due : List Actor) (i : ℕ) (s : State) (actor : Actor)
     → IsKept number up busy stopped actors due
@@ -145,9 +178,7 @@ pub sent-due : (number : ℕ) (up : Bool) (busy stopped : ℕ) (actors : List St
     → 0 < length s.log.noted.sent
     → has_actor due actor ≡ true
 sent-due number up busy stopped actors due i s actor kept below here itself some =
-    due-still number up busy stopped actors due i s s kept below here refl actor
-    ∙ cond-true (same_actor (record { node = number; serial = i }) actor) (has_news s) (has_actor due actor) ((same_actor-decides (record { node = number; serial = i }) actor).1 itself)
-    ∙ sent-news s some
+    news-due number up busy stopped actors due i s actor kept below here itself (sent-news s some)
 
 -- with one actor more, its state says whether its flush is due
 due-more : (number : ℕ) (actors : List State) (t : State) (a : Actor) → is_due_among number (actors ++ t ∷ []) a ≡ cond (same_actor (record { node = number; serial = length actors }) a) (has_news t) (is_due_among number actors a)
@@ -275,12 +306,6 @@ kept-popped number up busy stopped before after last due due' actor n kept view 
         kept-forgotten number up busy stopped after due due' actor t (subst (λ xs. IsKept number up busy stopped xs due) e kept)
         (same_parts actor (record { node = number; serial = length after }) (place.0 ∙ ap (λ (m : NodeState). m.number) (sym view)) serial)
         (ap (λ (x : State). x.busy) (sym last_one) ∙ found.0) (ap (λ (x : State). x.stopped) (sym last_one) ∙ found.1) takes
-
--- the place of an actor that was born is one of the list
-pub born-below : (number : ℕ) (up : Bool) (actors : List State) (n : NodeState) (i serial : ℕ) → record { number = number; up = up; actors = actors } ≡ n → i ≡ serial → serial < length n.actors → i < length actors
-born-below number up actors n i serial view e born =
-    let same = ap (λ (m : NodeState). length m.actors) view in
-    omega arith
 
 -- what stands at the place of an actor that was born is its state
 pub found-state : (number : ℕ) (up : Bool) (actors : List State) (n : NodeState) (i serial : ℕ) (s : State) → record { number = number; up = up; actors = actors } ≡ n → i ≡ serial → serial < length n.actors → s ≡ get_or actors i s → s ≡ state_in n serial

@@ -1,7 +1,8 @@
 //! The actors of one node.
-ghost use Rattle.std.specs.Prelude.{ℕ, ◌≡◌, ◌≢◌, ◌+◌, ◌-◌, ◌<◌, ◌≤◌, ◌&&◌, ◌∷◌, ◌==◌, not, if◌then◌else◌, [], false, true};
+ghost use Rattle.std.specs.Prelude.{ℕ, ◌≡◌, ◌≢◌, ◌+◌, ◌-◌, ◌<◌, ◌≤◌, ◌&&◌, ◌||◌, ◌∷◌, ◌==◌, not, if◌then◌else◌, [], false, true};
 ghost use Rattle.std.specs.Prelude.{length, IfNone, IfOk, IfSome, IsTrue, OnErr, OnOk, count_by};
 ghost use Rattle.history_model.specs.Facts.{created};
+ghost use Rattle.crgc_ids.specs.Actor.{Actor, same_actor};
 ghost use Rattle.refob_counts.specs.Counts.{count_of};
 ghost use Rattle.entry_records.specs.Log.{IsEntryOf};
 ghost use Rattle.entry_records.specs.Unflushed.{pair_count};
@@ -236,8 +237,9 @@ impl NodeActors {
         ensures ok { OnOk result (ChangesIn self.old self.new parent.serial (λ s t. Begets s t child parent supervised)) }
         ensures err { OnErr result (AreAlike self.old self.new) }
     {
-        self.due.put(parent)?;
         let place = parent.serial() as usize;
+        let was_due = self.actors[place].has_news();
+        make_due(&mut self.due, parent, was_due)?;
         let begotten = self.actors[place].beget(child, parent, supervised);
         settle(&mut self.due, parent, self.actors[place].has_news());
         begotten
@@ -250,8 +252,9 @@ impl NodeActors {
         ensures ok { OnOk result (ChangesIn self.old self.new actor.serial (λ s t. t ≡ record s { busy = true })) }
         ensures err { OnErr result (self.new ≡ self.old) }
     {
-        self.due.put(actor)?;
         let place = actor.serial() as usize;
+        let was_due = self.actors[place].has_news();
+        make_due(&mut self.due, actor, was_due)?;
         self.actors[place].wake();
         settle(&mut self.due, actor, self.actors[place].has_news());
         self.busy += 1;
@@ -267,8 +270,9 @@ impl NodeActors {
         ensures ok { OnOk result (ChangesIn self.old self.new actor.serial (Takes refs.now)) }
         ensures err { OnErr result (AreAlike self.old self.new) }
     {
-        self.due.put(actor)?;
         let place = actor.serial() as usize;
+        let was_due = self.actors[place].has_news();
+        make_due(&mut self.due, actor, was_due)?;
         let taken = self.actors[place].take(refs);
         settle(&mut self.due, actor, self.actors[place].has_news());
         taken?;
@@ -283,8 +287,9 @@ impl NodeActors {
         ensures ok { OnOk result (ChangesIn self.old self.new actor.serial (λ s t. t ≡ record s { busy = false })) }
         ensures err { OnErr result (self.new ≡ self.old) }
     {
-        self.due.put(actor)?;
         let place = actor.serial() as usize;
+        let was_due = self.actors[place].has_news();
+        make_due(&mut self.due, actor, was_due)?;
         self.actors[place].rest();
         settle(&mut self.due, actor, self.actors[place].has_news());
         self.busy -= 1;
@@ -297,8 +302,9 @@ impl NodeActors {
         ensures ok { OnOk result (ChangesIn self.old self.new actor.serial (λ s t. t ≡ record s { root = false })) }
         ensures err { OnErr result (self.new ≡ self.old) }
     {
-        self.due.put(actor)?;
         let place = actor.serial() as usize;
+        let was_due = self.actors[place].has_news();
+        make_due(&mut self.due, actor, was_due)?;
         self.actors[place].retire();
         settle(&mut self.due, actor, self.actors[place].has_news());
         Ok(())
@@ -333,8 +339,9 @@ impl NodeActors {
         ensures ok { OnOk result (ChangesIn self.old self.new actor.serial (λ s t. t ≡ noting (created owner actor ∷ []) s)) }
         ensures err { OnErr result (self.new ≡ self.old) }
     {
-        self.due.put(actor)?;
         let place = actor.serial() as usize;
+        let was_due = self.actors[place].has_news();
+        make_due(&mut self.due, actor, was_due)?;
         let noted = self.actors[place].note_created(owner, actor);
         settle(&mut self.due, actor, self.actors[place].has_news());
         noted
@@ -348,8 +355,9 @@ impl NodeActors {
         ensures ok { OnOk result (ChangesIn self.old self.new actor.serial (Sends to refs.now)) }
         ensures err { OnErr result (self.new ≡ self.old) }
     {
-        self.due.put(actor)?;
         let place = actor.serial() as usize;
+        let was_due = self.actors[place].has_news();
+        make_due(&mut self.due, actor, was_due)?;
         let sent = self.actors[place].send(to, refs);
         settle(&mut self.due, actor, self.actors[place].has_news());
         sent
@@ -377,8 +385,9 @@ impl NodeActors {
         ensures ok { OnOk result (ChangesIn self.old self.new actor.serial (Drops target)) }
         ensures err { OnErr result (self.new ≡ self.old) }
     {
-        self.due.put(actor)?;
         let place = actor.serial() as usize;
+        let was_due = self.actors[place].has_news();
+        make_due(&mut self.due, actor, was_due)?;
         let dropped = self.actors[place].drop_reference(target);
         settle(&mut self.due, actor, self.actors[place].has_news());
         dropped
@@ -425,6 +434,19 @@ impl NodeActors {
         self.up = false;
         self.busy = 0;
     }
+}
+
+/// The actor is one of the set from now on, as it is where its flush was due. After `NoMemory` all is as before.
+fn make_due(due: &mut ReadyActors, actor: ActorId, was_due: bool) -> Result<(), NoMemory>
+    requires { was_due ≡ true → has_actor due.old actor ≡ true }
+    ensures ok { OnOk result ((a : Actor) → has_actor due.new a ≡ (same_actor actor a || has_actor due.old a)) }
+    ensures err { OnErr result (due.new ≡ due.old) }
+{
+    if was_due {
+        return Ok(());
+    }
+    due.put(actor)?;
+    Ok(())
 }
 
 /// The actor, which is one of the set, stays so exactly where its flush is due.

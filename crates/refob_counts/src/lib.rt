@@ -3,7 +3,7 @@
 
 ghost use Rattle.std.specs.Prelude.{◌≡◌, ◌+◌, ◌-◌, ◌<◌, ◌≤◌, ◌^◌, [], OnOk, OnErr, count_by};
 ghost use Rattle.crgc_ids.specs.Actor.{Actor, same_actor};
-ghost use Rattle.refob_counts.specs.Counts.{CountTheSame, IsCountChange, IsGain, count_of};
+ghost use Rattle.refob_counts.specs.Counts.{CountTheSame, IsCountChange, IsGain, count_of, is_free_for};
 
 use crgc_ids::{ActorId, NoMemory};
 use std::alloc::Global;
@@ -14,20 +14,23 @@ use std::marker::Model;
 #[derive(Clone, Copy, PartialEq, Eq, Debug)]
 pub struct NotHeld;
 
-/// How many references to each actor are held. It keeps its allocator. Contracts see the list of the targets and their
+/// How many references to each actor are held. It keeps its allocator. The first target, for most actors the actor itself,
+/// stands beside the map of the others, so that most actors need no map. Contracts see the list of the targets and their
 /// counts, and read it by `count_of`.
 #[derive(Debug, Drop)]
 pub struct RefCounts {
-    counts: BTreeMap<ActorId, u32>,
+    first: Option<(ActorId, u32)>,
+    others: BTreeMap<ActorId, u32>,
 }
 
 impl Model for RefCounts {
     ghost use Rattle.std.specs.Prelude.{ℕ, List};
     ghost use Rattle.crgc_ids.specs.Actor.{Actor};
+    ghost use Rattle.refob_counts.specs.Counts.{with_first};
 
     ghost Value = { List (Actor × ℕ) };
 
-    ghost view = { λ r. r.counts.entries };
+    ghost view = { λ r. with_first r.first r.others.entries };
 }
 
 impl RefCounts {
@@ -36,7 +39,8 @@ impl RefCounts {
         ensures { result ≡ [] }
     {
         RefCounts {
-            counts: BTreeMap::new(alloc),
+            first: None,
+            others: BTreeMap::new(alloc),
         }
     }
 
@@ -49,10 +53,20 @@ impl RefCounts {
         ensures absent { OnErr result (count_of self.old target ≡ 0) }
     {
         let held = self.held(target);
-        match self.counts.insert(target, held + count) {
-            Ok(_) => Ok(()),
-            Err(_) => Err(NoMemory),
+        self.set(target, held + count)
+    }
+
+    /// So many references to the target are held from now on. `NoMemory` comes only where none was, and all is then as before.
+    fn set(&mut self, target: ActorId, count: u32) -> Result<(), NoMemory>
+        ensures ok { OnOk result (IsCountChange self.old self.new target count) }
+        ensures err { OnErr result (self.new ≡ self.old) }
+        ensures absent { OnErr result (count_of self.old target ≡ 0) }
+    {
+        if is_free_for(self.first, target) {
+            self.first = Some((target, count));
+            return Ok(());
         }
+        set_in(&mut self.others, target, count)
     }
 
     /// One reference to each of these targets is held more, as often as it comes, and no other count changes. `NoMemory` comes
@@ -93,25 +107,66 @@ impl RefCounts {
     {
         match self.held(target) {
             0 => return Err(NotHeld),
-            1 => {
-                self.counts.remove(&target);
-            }
+            1 => self.clear(target),
             held => {
-                // the target has an entry, so this takes no memory
-                let _ = self.counts.insert(target, held - 1);
+                // some are held, so this takes no memory
+                let _ = self.set(target, held - 1);
             }
         }
         Ok(())
+    }
+
+    /// No reference to the target is held from now on.
+    fn clear(&mut self, target: ActorId)
+        ensures { IsCountChange self.old self.new target 0 }
+    {
+        if is_free_for(self.first, target) {
+            self.first = Some((target, 0));
+        } else {
+            self.others.remove(&target);
+        }
     }
 
     /// How many references to the target are held. Logarithmic time in the number of targets.
     pub fn held(&self, target: ActorId) -> u32
         ensures { result ≡ count_of self.now target }
     {
-        match self.counts.get(&target) {
-            Some(count) => *count,
-            None => 0,
+        match self.first {
+            Some((first, count)) if first == target => count,
+            _ => held_in(&self.others, target),
         }
+    }
+}
+
+/// Whether the place of the first target is that of this one, or of none.
+fn is_free_for(first: Option<(ActorId, u32)>, target: ActorId) -> bool
+    ensures { result ≡ is_free_for first target }
+{
+    match first {
+        Some((actor, _)) => actor == target,
+        None => true,
+    }
+}
+
+/// The count of the target, 0 where the map has none.
+fn held_in(counts: &BTreeMap<ActorId, u32>, target: ActorId) -> u32
+    ensures { result ≡ count_of counts.now.entries target }
+{
+    match counts.get(&target) {
+        Some(count) => *count,
+        None => 0,
+    }
+}
+
+/// The target has this count from now on.
+fn set_in(counts: &mut BTreeMap<ActorId, u32>, target: ActorId, count: u32) -> Result<(), NoMemory>
+    ensures ok { OnOk result (IsCountChange counts.old.entries counts.new.entries target count) }
+    ensures err { OnErr result (counts.new.entries ≡ counts.old.entries) }
+    ensures absent { OnErr result (count_of counts.old.entries target ≡ 0) }
+{
+    match counts.insert(target, count) {
+        Ok(_) => Ok(()),
+        Err(_) => Err(NoMemory),
     }
 }
 

@@ -1,4 +1,5 @@
 pub mod FoldLemmas
-pub mod SumLemmas
-pub mod RowLemmas
 pub mod OnesLemmas
+pub mod OrderLemmas
+pub mod RowLemmas
+pub mod SumLemmas

@@ -1,12 +1,11 @@
 -- Rows that count actors, and rows that count pairs, as they are sorted and added up.
 use Rattle.std.proofs.Common.{◌≡◌, ◌⊎◌, ◌+◌, ◌<◌, ◌≤◌, ℕ, Bool, true, false, cond, min, Ordering, sym, ◌∙◌, ap, inl, inr, arith}
 use Rattle.std.proofs.lemmas.Bool.{false≢true}
-use Rattle.std.specs.Ordering.{MatchOrdering, is_lt, nat_cmp, ordering_then}
+use Rattle.std.specs.Ordering.{MatchOrdering, is_lt, ordering_then}
 use Rattle.std.specs.declared.cmp.Ordering.TheVariants.{Equal, Greater, Less}
-use Rattle.crgc_ids.proofs.ActorOrder.{actor_cmp, actor_cmp-tells}
+use Rattle.crgc_ids.proofs.ActorOrder.{actor_cmp-tells}
 use Rattle.crgc_ids.specs.Actor.{Actor, IsActorBelow}
-use Rattle.crgc_ids.specs.declared.rising.ActorCount.{ActorCount}
-use Rattle.crgc_ids.specs.declared.rising.PairCount.{PairCount}
+use Rattle.row_sums.specs.Orders.{compare_actors, compare_pairs}
 use Rattle.row_sums.proofs.SumLemmas.{AtMost, TakesIn}
 use Rattle.crgc_ids.proofs.KeyOrders.{PairBelow}
 
@@ -22,22 +21,23 @@ not_less cmp below tells j k next h =
     ] in
     case (tells k j) h
 
-abbrev actor_not_less : (a b : Actor) (next : Ordering) → is_lt (ordering_then (actor_cmp b a) next) ≡ false → IsActorBelow a b ⊎ ((a ≡ b) × (is_lt next ≡ false))
-actor_not_less = not_less actor_cmp IsActorBelow actor_cmp-tells
+-- of two actors that sorting left in their order, the first is not above the second
+pub actors-sorted : (a b : Actor) → is_lt (compare_actors b a) ≡ false → AtMost IsActorBelow a b
+actors-sorted a b h =
+    let Case : Ordering → Type 0 = λ o. MatchOrdering o (IsActorBelow b a) (b ≡ a) (IsActorBelow a b) → is_lt o ≡ false → AtMost IsActorBelow a b in
+    let case : Case (compare_actors b a) = elim (compare_actors b a) as Case [
+      | Less ↦ λ _ t. absurd (false≢true (sym t))
+      | Equal ↦ λ same _. inl (sym same)
+      | Greater ↦ λ above _. inr above
+    ] in
+    case (actor_cmp-tells b a) h
 
--- of two rows that sorting left in their order, the first one's key is not above the second one's
-pub counts-sorted : (x y : ActorCount) → is_lt (ordering_then (actor_cmp y.actor x.actor) (nat_cmp y.count x.count)) ≡ false → AtMost IsActorBelow x.actor y.actor
-counts-sorted x y h =
-    elim (actor_not_less x.actor y.actor (nat_cmp y.count x.count) h) [ inl below ↦ inr below | inr same ↦ inl same.0 ]
-
-pub pairs-sorted : (x y : PairCount) → is_lt (ordering_then (actor_cmp y.owner x.owner) (ordering_then (actor_cmp y.target x.target) (nat_cmp y.count x.count))) ≡ false → AtMost PairBelow (x.owner, x.target) (y.owner, y.target)
-pairs-sorted x y h =
-    elim (actor_not_less x.owner y.owner (ordering_then (actor_cmp y.target x.target) (nat_cmp y.count x.count)) h) [
+-- so it is with pairs
+pub pairs-sorted : (p q : Actor × Actor) → is_lt (compare_pairs q p) ≡ false → AtMost PairBelow p q
+pairs-sorted p q h =
+    elim (not_less compare_actors IsActorBelow actor_cmp-tells p.0 q.0 (compare_actors q.1 p.1) h) [
       | inl below ↦ inr (inl below)
-      | inr owner ↦ elim (actor_not_less x.target y.target (nat_cmp y.count x.count) owner.1) [
-        | inl below ↦ inr (inr (owner.0, below))
-        | inr target ↦ inl (λ i. (owner.0 i, target.0 i))
-      ]
+      | inr owner ↦ elim (actors-sorted p.1 q.1 owner.1) [ inl target ↦ inl (λ i. (owner.0 i, target i)) | inr below ↦ inr (inr (owner.0, below)) ]
     ]
 
 -- a row that takes in the next one up to the greatest count that it has room for

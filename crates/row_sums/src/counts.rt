@@ -5,6 +5,7 @@ ghost use Rattle.crgc_ids.specs.Actor.{Actor, IsActorBelow, same_actor};
 ghost use Rattle.crgc_ids.specs.Rising.{IsRising};
 ghost use Rattle.row_sums.specs.Totals.{actor_total};
 
+use crate::orders::compare_counts;
 use crgc_ids::{ActorCount, ActorCounts};
 
 /// The rows added up: they rise, those of one actor become one row, and each actor is counted as often as before. Time in
@@ -29,7 +30,7 @@ fn add_up_counts(rows: &mut Vec<ActorCount>)
     ensures stand { AllByRecursion (λ r. 0 < r.count) rows.new.items }
     ensures totals { (a : Actor) → actor_total a rows.new.items ≡ actor_total a rows.old.items }
 {
-    rows.sort_unstable();
+    rows.sort_unstable_by(|r, s| compare_counts(r, s));
     rows.dedup_by(|next, last| take_in_count(last, next));
 }
 

@@ -2,9 +2,11 @@
 #![tactic(auto)]
 
 mod counts;
+mod orders;
 mod pairs;
 
 pub use counts::sum_of_counts;
+pub use orders::compare_actors;
 pub use pairs::sum_of_pairs;
 
 #[cfg(test)]

@@ -5,6 +5,7 @@ ghost use Rattle.crgc_ids.specs.Actor.{Actor, IsPairBelow, same_actor};
 ghost use Rattle.crgc_ids.specs.Rising.{IsRising};
 ghost use Rattle.row_sums.specs.Totals.{pair_total};
 
+use crate::orders::compare_pairs;
 use crgc_ids::{PairCount, PairCounts};
 
 /// The rows added up: they rise, those of one pair become one row, and each pair is counted as often as before. Time in
@@ -29,7 +30,7 @@ fn add_up_pairs(rows: &mut Vec<PairCount>)
     ensures stand { AllByRecursion (λ r. 0 < r.count) rows.new.items }
     ensures totals { (b a : Actor) → pair_total b a rows.new.items ≡ pair_total b a rows.old.items }
 {
-    rows.sort_unstable();
+    rows.sort_unstable_by(|r, s| compare_pairs(r, s));
     rows.dedup_by(|next, last| take_in_pair(last, next));
 }
 

@@ -1,5 +1,5 @@
 -- Two events at once: what hinders the second after the first.
-use Rattle.std.proofs.Common.{◌≡◌, ◌≤◌, ◌<◌, ◌∷◌, ◌++◌, not, Bool, true, false, cond, List, [], length, Option, Some, None, IfNone, IfSome, refl, sym, ◌∙◌, ap, subst, arith}
+use Rattle.std.proofs.Common.{◌≡◌, ◌≤◌, ◌<◌, ◌∷◌, ◌++◌, not, Bool, true, false, cond, List, [], length, Option, Some, None, IfNone, IfSome, ℕ, refl, sym, ◌∙◌, ap, subst, arith}
 use Rattle.std.specs.Prelude.{nat_le, nat_lt, unwrap_or}
 use Rattle.std.specs.Option.{option_or}
 use Rattle.std.proofs.lemmas.Bool.{le-leb, lt-leb, lt-ltb}
@@ -96,20 +96,20 @@ done-answer cl e h legal is =
     subst (λ r. Done (told_of e h) ≡ unwrap_or (hindered r (limit_passed cl e h)) (Done (told_of e h))) (sym legal)
     (subst (λ w. Done (told_of e h) ≡ unwrap_or (hindered None w) (Done (told_of e h))) is refl)
 
--- the limits of a publish after a flush
-pub flushed-over : (cl : Cluster) (h : List Event) (a : Actor) → passes_delta cl (Publish a.node) (Flush a ∷ h) ≡ true → Some Delta ≡ limit_passed cl (Publish a.node) (Flush a ∷ h)
-flushed-over cl h a over = subst (λ v. Some Delta ≡ cond v (Some Delta) (cond (nat_le 1000000 (length (Flush a ∷ h))) (Some Events) None)) (sym over) refl
+-- the limits of a publish
+pub publish-over : (cl : Cluster) (h : List Event) (n : ℕ) → passes_delta cl (Publish n) h ≡ true → Some Delta ≡ limit_passed cl (Publish n) h
+publish-over cl h n over = subst (λ v. Some Delta ≡ cond v (Some Delta) (cond (nat_le 1000000 (length h)) (Some Events) None)) (sym over) refl
 
-pub flushed-full : (cl : Cluster) (h : List Event) (a : Actor) → passes_delta cl (Publish a.node) (Flush a ∷ h) ≡ false → 999999 ≤ length h → Some Events ≡ limit_passed cl (Publish a.node) (Flush a ∷ h)
-flushed-full cl h a over full =
-    let events = le-leb 1000000 (length (Flush a ∷ h)) (omega arith) in
-    subst (λ v. Some Events ≡ cond v (Some Delta) (cond (nat_le 1000000 (length (Flush a ∷ h))) (Some Events) None)) (sym over)
+pub publish-full : (cl : Cluster) (h : List Event) (n : ℕ) → passes_delta cl (Publish n) h ≡ false → 1000000 ≤ length h → Some Events ≡ limit_passed cl (Publish n) h
+publish-full cl h n over full =
+    let events = le-leb 1000000 (length h) full in
+    subst (λ v. Some Events ≡ cond v (Some Delta) (cond (nat_le 1000000 (length h)) (Some Events) None)) (sym over)
     (subst (λ v. Some Events ≡ cond v (Some Events) None) (sym events) refl)
 
-pub flushed-free : (cl : Cluster) (h : List Event) (a : Actor) → passes_delta cl (Publish a.node) (Flush a ∷ h) ≡ false → length h < 999999 → None ≡ limit_passed cl (Publish a.node) (Flush a ∷ h)
-flushed-free cl h a over room =
-    let events = lt-leb 1000000 (length (Flush a ∷ h)) (omega arith) in
-    subst (λ v. None ≡ cond v (Some Delta) (cond (nat_le 1000000 (length (Flush a ∷ h))) (Some Events) None)) (sym over)
+pub publish-free : (cl : Cluster) (h : List Event) (n : ℕ) → passes_delta cl (Publish n) h ≡ false → length h < 1000000 → None ≡ limit_passed cl (Publish n) h
+publish-free cl h n over room =
+    let events = lt-leb 1000000 (length h) room in
+    subst (λ v. None ≡ cond v (Some Delta) (cond (nat_le 1000000 (length h)) (Some Events) None)) (sym over)
     (subst (λ v. None ≡ cond v (Some Events) None) (sym events) refl)
 
 -- the publish may follow the flush where it passes no limit

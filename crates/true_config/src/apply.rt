@@ -1,5 +1,6 @@
 //! Events.
-ghost use Rattle.std.specs.Prelude.{◌≡◌, false, if◌then◌else◌, IfOk};
+ghost use Rattle.std.specs.Prelude.{ℕ, ◌≡◌, ◌≢◌, false, if◌then◌else◌, IfOk};
+ghost use Rattle.history_model.specs.declared.events.Event.TheVariants as events;
 ghost use Rattle.true_config.specs.declared.applied.Told.TheVariants.{Admitted, Born, Discarded, Plain, Taken};
 ghost use Rattle.true_config.specs.Applying.{CarriesFew, IsChange, OnDone, UnlessDone, answer_to, is_sweep, telling, told_by_number};
 ghost use Rattle.true_config.specs.Promises.{StoppedAreQuiescent};
@@ -35,6 +36,21 @@ impl World {
         ensures done { OnDone result (Adds event.now self.old self.new) }
         ensures unless { UnlessDone result (self.new ≡ self.old) }
     {
+        if let Event::Publish { node } = event {
+            return self.publish_if_possible(*node);
+        }
+        self.change_if_possible(event)
+    }
+
+    /// An event that is no publication either, or what hinders it.
+    fn change_if_possible(&mut self, event: &Event) -> Result<Applied, NoMemory>
+        requires no_sweep { is_sweep event.now ≡ false }
+        requires no_publish { (n : ℕ) → event.now ≢ events.Publish n }
+        requires few { CarriesFew event.now }
+        ensures answer { IfOk result (λ x. x ≡ answer_to self.old.cluster event.now self.old.past) }
+        ensures done { OnDone result (Adds event.now self.old self.new) }
+        ensures unless { UnlessDone result (self.new ≡ self.old) }
+    {
         let Ok(hindrance) = self.hindrance(event) else {
             return Err(NoMemory);
         };
@@ -51,6 +67,7 @@ impl World {
     fn change(&mut self, event: &Event) -> Result<Told, NoMemory>
         requires may { MayFollow event.now self.old }
         requires no_sweep { is_sweep event.now ≡ false }
+        requires no_publish { (n : ℕ) → event.now ≢ events.Publish n }
         requires few { CarriesFew event.now }
         ensures { IsChange event.now self.old self.new result }
     {
@@ -65,7 +82,7 @@ impl World {
             Event::Retire { actor } => plain(self.retire(*actor)),
             Event::Rest { actor } => plain(self.rest(*actor)),
             Event::Flush { actor } => plain(self.flush(*actor)),
-            Event::Publish { node } => plain(self.publish(*node)),
+            Event::Publish { .. } => unreachable!(),
             Event::Window { at, from } => plain(self.window(*at, *from)),
             Event::Admit { from, at, number } => came(self.admit(*from, *at, *number)),
             Event::Lose { from, at, number } => plain(self.lose(*from, *at, *number)),

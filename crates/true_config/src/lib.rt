@@ -11,6 +11,7 @@ mod limits;
 mod links;
 mod messages;
 mod moment;
+mod publishing;
 mod readers;
 mod sweeping;
 mod telling;

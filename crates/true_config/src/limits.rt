@@ -90,7 +90,7 @@ impl World {
     }
 
     /// Whether the next Delta of the node would name too many actors.
-    fn queue_names_too_many(&self, node: NodeId) -> Result<bool, NoMemory>
+    pub(crate) fn queue_names_too_many(&self, node: NodeId) -> Result<bool, NoMemory>
         ensures { IfOk result (λ over. over ≡ nat_lt 200000 (named_count (queue self.now.cluster node self.now.past))) }
     {
         self.streams.names_too_many(node)

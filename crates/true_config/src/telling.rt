@@ -1,4 +1,4 @@
-//! The events by which nodes tell: flushes, publications, windows, removals, and the hands of bulletins.
+//! The events by which nodes tell, but for publications: flushes, windows, removals, and the hands of bulletins.
 ghost use Rattle.std.specs.Prelude.{◌≡◌, OnErr, OnOk};
 ghost use Rattle.history_model.specs.declared.events.Event.TheVariants as events;
 ghost use Rattle.true_config.specs.Steps.{Adds, MayFollow};
@@ -16,22 +16,6 @@ impl World {
     {
         let event = Event::Hand { to, origin, number };
         let Ok(()) = self.history.push(event) else {
-            return Err(NoMemory);
-        };
-        Ok(())
-    }
-
-    /// The queue of a node becomes a bulletin. After `NoMemory` all is as before.
-    pub(crate) fn publish(&mut self, node: NodeId) -> Result<(), NoMemory>
-        requires { MayFollow (events.Publish node) self.old }
-        ensures ok { OnOk result (Adds (events.Publish node) self.old self.new) }
-        ensures err { OnErr result (self.new ≡ self.old) }
-    {
-        let Ok(()) = self.history.push(Event::Publish { node }) else {
-            return Err(NoMemory);
-        };
-        let Ok(()) = self.streams.publish(node) else {
-            self.history.take_back();
             return Err(NoMemory);
         };
         Ok(())

@@ -2,17 +2,22 @@
 use Rattle.std.proofs.Common.{◌≡◌, ◌+◌, ◌<◌, ◌&&◌, Bool, true, false, cond, min, Option, Some, None, Ordering, refl, sym, ◌∙◌, ap, subst, inl, inr, arith}
 use Rattle.std.proofs.lemmas.Bool.{false≢true}
 use Rattle.std.proofs.lemmas.Bool.Decides.{Decides-and, Decides-like}
+use Rattle.std.proofs.lemmas.Cmp.{on_total, then_total}
 use Rattle.std.specs.Bool.{Decides}
+use Rattle.std.specs.Cmp.{IsTotalOrder}
+use Rattle.std.specs.Cmp.Lexicographic.{options_total}
 use Rattle.std.specs.Option.{option_cmp}
-use Rattle.std.specs.Ordering.{MatchOrdering, is_lt, nat_cmp, ordering_then}
+use Rattle.std.specs.Ordering.{MatchOrdering, is_lt}
 use Rattle.std.specs.declared.cmp.Ordering.TheVariants.{Equal, Greater, Less}
 use Rattle.crgc_ids.proofs.ActorLaws.{IsActorBelow-apart, IsActorBelow-trans, same_actor-decides}
 use Rattle.crgc_ids.proofs.ActorOrder.{actor_cmp, actor_cmp-tells}
 use Rattle.crgc_ids.proofs.KeyOrders.{IsKeyOrder}
 use Rattle.crgc_ids.specs.Actor.{Actor, IsActorBelow, same_actor}
-use Rattle.row_sums.proofs.RowLemmas.{not_less}
+use Rattle.row_sums.proofs.OrderLemmas.{actors-total}
+use Rattle.row_sums.proofs.RowLemmas.{actors-sorted, not_less}
 use Rattle.row_sums.proofs.SumLemmas.{AtMost}
-use Rattle.undo_log.specs.Keys.{IsKeyBelow, IsOwnerBelow, same_owner}
+use Rattle.row_sums.specs.Orders.{compare_actors}
+use Rattle.undo_log.specs.Keys.{IsKeyBelow, compare_keys, IsOwnerBelow, same_owner}
 use Rattle.undo_log.specs.declared.corrections.Correction.{Correction}
 
 abbrev pub Key : Type 0
@@ -66,17 +71,16 @@ key_order = record {
     key-trans i j k (inr g) (inl h) = inl (subst (λ o. IsOwnerBelow o k.0) (sym g.0) h)
     key-trans i j k (inr g) (inr h) = inr (g.0 ∙ h.0, IsActorBelow-trans i.1 j.1 k.1 g.1 h.1)
 
--- of two rows that sorting left in their order, the first one's key is not above the second one's
-pub corrections-sorted : (x y : Correction) → is_lt (ordering_then (option_cmp actor_cmp y.owner x.owner) (ordering_then (actor_cmp y.target x.target) (ordering_then (nat_cmp y.told x.told) (nat_cmp y.admitted x.admitted)))) ≡ false → AtMost IsKeyBelow (x.owner, x.target) (y.owner, y.target)
-corrections-sorted x y h =
-    let last = ordering_then (nat_cmp y.told x.told) (nat_cmp y.admitted x.admitted) in
-    elim (not_less (option_cmp actor_cmp) IsOwnerBelow owner_cmp-tells x.owner y.owner (ordering_then (actor_cmp y.target x.target) last) h) [
+-- of two keys that sorting left in their order, the first is not above the second
+pub keys-sorted : (j k : Key) → is_lt (compare_keys k j) ≡ false → AtMost IsKeyBelow j k
+keys-sorted j k h =
+    elim (not_less (option_cmp compare_actors) IsOwnerBelow owner_cmp-tells j.0 k.0 (compare_actors k.1 j.1) h) [
       | inl below ↦ inr (inl below)
-      | inr owner ↦ elim (not_less actor_cmp IsActorBelow actor_cmp-tells x.target y.target last owner.1) [
-        | inl below ↦ inr (inr (owner.0, below))
-        | inr target ↦ inl (λ i. (owner.0 i, target.0 i))
-      ]
+      | inr owner ↦ elim (actors-sorted j.1 k.1 owner.1) [ inl target ↦ inl (λ i. (owner.0 i, target i)) | inr below ↦ inr (inr (owner.0, below)) ]
     ]
+
+pub keys-total : IsTotalOrder compare_keys
+keys-total = then_total (on_total (λ (k : Key). k.0) (options_total actors-total)) (on_total (λ (k : Key). k.1) actors-total)
 
 -- a row that counts something still does
 pub still_counts : (next last : Correction) (b : Bool) (next' last' : Correction) → next' ≡ next → last' ≡ cond b (record last { told = min (last.told + next.told) 18446744073709551615; admitted = min (last.admitted + next.admitted) 18446744073709551615 }) last → 0 < next.told + next.admitted → 0 < last.told + last.admitted → (0 < next'.told + next'.admitted) × (0 < last'.told + last'.admitted)

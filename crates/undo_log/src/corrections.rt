@@ -5,8 +5,13 @@ ghost use Rattle.crgc_ids.specs.Actor.{same_actor};
 ghost use Rattle.crgc_ids.specs.Rising.{IsRising};
 ghost use Rattle.undo_log.specs.Keys.{IsKeyBelow, same_owner};
 ghost use Rattle.undo_log.specs.Totals.{HaveRoom, HaveTotalsOf};
+ghost use Rattle.std.specs.Option.{option_cmp};
+ghost use Rattle.row_sums.specs.Orders as orders;
+ghost use Rattle.undo_log.specs.Keys.{compare_keys};
 
 use crgc_ids::{ActorId, RisingList, Row};
+use row_sums::compare_actors;
+use std::cmp::Ordering;
 
 /// How often a node told something, and how often others admitted it from the node: without an owner the messages to the
 /// target, with one the pairs of the two. Rows are ordered by owner, no owner first, then by target.
@@ -44,8 +49,27 @@ pub fn add_up(rows: &mut Vec<Correction>)
     ensures stand { AllByRecursion (λ r. 0 < r.told + r.admitted) rows.new.items }
     ensures totals { HaveTotalsOf rows.old.items rows.new.items }
 {
-    rows.sort_unstable();
+    rows.sort_unstable_by(|r, s| compare_keys(r, s));
     rows.dedup_by(|next, last| take_in(last, next));
+}
+
+/// Rows by owner, no owner first, then by target.
+fn compare_keys(r: &Correction, s: &Correction) -> Ordering
+    ensures { result ≡ compare_keys (r.now.owner, r.now.target) (s.now.owner, s.now.target) }
+{
+    compare_owners(r.owner, s.owner).then(compare_actors(r.target, s.target))
+}
+
+/// No owner before each owner, and owners by node, then by serial.
+fn compare_owners(a: Option<ActorId>, b: Option<ActorId>) -> Ordering
+    ensures { result ≡ option_cmp orders.compare_actors a b }
+{
+    match (a, b) {
+        (None, None) => Ordering::Equal,
+        (None, Some(_)) => Ordering::Less,
+        (Some(_), None) => Ordering::Greater,
+        (Some(a), Some(b)) => compare_actors(a, b),
+    }
 }
 
 /// Whether the next row has the key of the last one, which then takes in its numbers.

@@ -18,4 +18,4 @@ invariant_of-self-2 c =
     kept-changed old.node old.up old.busy old.busy old.stopped old.stopped old.actors.items old.due c.settle.new.due c.serial-place.result s t c.self.invariant below c.index_mut.ensures.value
     (ap (λ v. old.busy + cond old.up (one v) 0) busy) (ap (λ v. old.stopped + one v) stopped)
     (subst (λ v. (a : Actor) → has_actor c.settle.new.due a ≡ cond (same_actor (record { node = old.node; serial = c.serial-place.result }) a) v (has_actor old.due a)) news
-    (settled-due old.node c.serial-place.result c.args.actor old.due c.put.new.self c.settle.new.due c.has_news.result here (sym c.serial-place.ensures.number) c.in_ok-put.ensures.ok c.settle.ensures))
+    (settled-due old.node c.serial-place.result c.args.actor old.due c.make_due.new.due c.settle.new.due c.has_news.result here (sym c.serial-place.ensures.number) c.in_ok-make_due.ensures.ok c.settle.ensures))

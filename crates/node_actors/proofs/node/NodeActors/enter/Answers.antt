@@ -1,4 +1,4 @@
-use Rattle.std.proofs.Common.{◌≡◌, ◌<◌, [], ◌∷◌, ◌++◌, length, sym, ◌∙◌, ap, subst}
+use Rattle.std.proofs.Common.{◌<◌, [], ◌∷◌, ◌++◌, length, sym, ◌∙◌, ap, subst}
 use Rattle.node_actors.specs.Keeping.{IsKept}
 use Rattle.node_actors.specs.Node.{NodeState, next_actor}
 use Rattle.node_actors.proofs.KeepingLemmas.{kept-entered}

@@ -1,4 +1,4 @@
-use Rattle.std.proofs.Common.{ap, sym}
+use Rattle.std.proofs.Common.{ap}
 use Rattle.actor_states.specs.State.{State, has_news}
 use Rattle.node_actors.proofs.KeepingLemmas.{born-below, either_way, kept-quiet}
 use Rattle.node_actors.proofs.node.NodeActors.gain.Goals as goal

@@ -1,5 +1,4 @@
-use Rattle.std.proofs.Common.{sym, subst}
-use Rattle.actor_states.specs.State.{State, Takes}
+use Rattle.actor_states.specs.State.{Takes}
 use Rattle.node_actors.proofs.KeepingLemmas.{changes-in}
 use Rattle.node_actors.proofs.node.NodeActors.take.Goals as goal
 

@@ -1,5 +1,5 @@
 use Rattle.std.proofs.Common.{◌≡◌, ◌+◌, ◌<◌, cond, length, rules, sym, ap, subst}
-use Rattle.crgc_ids.specs.Actor.{Actor, same_actor}
+use Rattle.crgc_ids.specs.Actor.{same_actor}
 use Rattle.crgc_ids.proofs.ActorLaws.{same_parts}
 use Rattle.ready_actors.specs.Ready.{has_actor}
 use Rattle.actor_states.specs.State.{State, has_news}

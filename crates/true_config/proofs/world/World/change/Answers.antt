@@ -77,12 +77,6 @@ flush-requires c = subst (λ e. MayFollow e c.args.self.now) c.in-Flush.is c.req
 pub returns-in-Flush : goal.returns-in-Flush
 returns-in-Flush c = changed-plain c.args.event.now _ c.args.self.now c.flush.new.self c.flush.result c.plain-in-Flush.result c.in-Flush.is refl c.plain-in-Flush.ensures c.flush.ensures.ok c.flush.ensures.err
 
-pub publish-requires : goal.publish-requires
-publish-requires c = subst (λ e. MayFollow e c.args.self.now) c.in-Publish.is c.requires.may
-
-pub returns-in-Publish : goal.returns-in-Publish
-returns-in-Publish c = changed-plain c.args.event.now _ c.args.self.now c.publish.new.self c.publish.result c.plain-in-Publish.result c.in-Publish.is refl c.plain-in-Publish.ensures c.publish.ensures.ok c.publish.ensures.err
-
 pub window-requires : goal.window-requires
 window-requires c = subst (λ e. MayFollow e c.args.self.now) c.in-Window.is c.requires.may
 

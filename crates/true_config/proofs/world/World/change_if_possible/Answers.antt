@@ -3,7 +3,7 @@ use Rattle.history_model.specs.Legal.{refusal}
 use Rattle.journal_model.specs.Limits.{limit_passed}
 use Rattle.true_config.specs.Steps.{Adds}
 use Rattle.true_config.proofs.Answering.{hindered-not_done, may-follow}
-use Rattle.true_config.proofs.world.World.apply_if_possible.Goals as goal
+use Rattle.true_config.proofs.world.World.change_if_possible.Goals as goal
 
 pub returns-in-Some-clause-done : goal.returns-in-Some-clause-done
 returns-in-Some-clause-done c =
