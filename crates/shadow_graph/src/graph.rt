@@ -323,12 +323,6 @@ impl ShadowGraph {
             return;
         }
         self.lost = after;
-        settle_lost(
-            &mut self.shadows,
-            &mut self.edges,
-            &self.log,
-            before,
-            after,
-        );
+        settle_lost(&mut self.shadows, &mut self.edges, &self.log, before, after);
     }
 }
