@@ -134,6 +134,7 @@ impl KeptMarks {
         requires settled { IsEmpty self.old.queued }
         ensures kept { IsKept (G.graph graph.now) self.new }
         ensures watched { KeepsWatch self.old self.new }
+        ensures all { (a : ℕ) → a < (G.graph graph.now).places → has_place self.new.touched a ≡ true }
         ensures room { length self.new.supports ≡ length self.old.supports }
     {
         let places = graph.place_count();
