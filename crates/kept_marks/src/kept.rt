@@ -109,6 +109,7 @@ impl KeptMarks {
     pub fn touch(&mut self, place: u32)
         requires { place < length self.old.supports }
         ensures value { self.new ≡ record self.old { touched = slice_set self.old.touched place true } }
+        ensures there { has_place self.new.touched place ≡ true }
         ensures kept { (g : Graph) → place < g.places → IsKept g self.old → IsKept g self.new }
     {
         self.touched.put(place);
