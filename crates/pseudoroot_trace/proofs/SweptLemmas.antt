@@ -152,6 +152,7 @@ pub swept-graph : (t : Traced) (k' new : Kept) → ArePlaced t.graph → IsSame 
     → IsSweptGraph t (record { graph = t.graph; kept = new; places = length t.graph.shadows.names; is_stale = true })
 swept-graph t k' new placed same swept = record {
   graph = refl;
+  placed = placed;
   places = refl;
   sweep = traced-sweep t.graph (is_marked_in after) placed marked;
   clean = swept.touched;

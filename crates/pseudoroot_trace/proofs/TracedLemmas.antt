@@ -56,7 +56,7 @@ other-stays g h actor a drops apart =
 
 -- ---- a mark stands in the graph as it became
 
-longer : (old new : List Actor) → NamesMore old new → length old ≤ length new
+pub longer : (old new : List Actor) → NamesMore old new → length old ≤ length new
 longer old new more = (let long : length new ≡ length old + length more.0 = ap (λ (xs : List Actor). length xs) more.1 ∙ length-append old more.0 in omega (arith, long))
 
 module _ (g h : Graph) (placed : ArePlaced g) (placed' : ArePlaced h) (more : NamesMore g.shadows.names h.shadows.names) where

@@ -87,6 +87,7 @@ pub record IsSweptAlong (g : Graph) (places : ℕ) (is_stale : Bool) (old new : 
 -- after a sweep: marked is exactly what a sweep marks, each mark stands, and whatever place may fall is marked or has fallen
 pub record IsSweptGraph (old new : Traced) : Type 0 where
   pub graph : new.graph ≡ old.graph
+  pub placed : ArePlaced new.graph
   pub places : new.places ≡ length new.graph.shadows.names
   pub sweep : IsSweepBy new.graph (is_marked_in new)
   pub clean : IsEmpty new.kept.touched
