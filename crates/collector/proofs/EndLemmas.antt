@@ -1,6 +1,5 @@
 -- What a collector is after a sweep.
-use Rattle.std.proofs.Common.{◌≡◌, ◌||◌, ◌++◌, ℕ, Bool, true, false, List, sym, ◌∙◌, ap, subst, arith}
-use Rattle.std.proofs.lemmas.Bool.{false≢true}
+use Rattle.std.proofs.Common.{◌≡◌, ◌||◌, ◌++◌, ℕ, Bool, false, List, sym, ◌∙◌, ap, subst, arith}
 use Rattle.crgc_ids.specs.Actor.{Actor}
 use Rattle.history_model.specs.declared.records.Verdict.{Verdict}
 use Rattle.history_model.specs.Graph.{holds_actor}
@@ -14,11 +13,7 @@ use Rattle.collector.proofs.DropLemmas.{gone-more}
 use Rattle.collector.proofs.LeftLemmas.{left-swept}
 use Rattle.collector.proofs.SweepLemmas.{found, sweeps-is}
 
--- where the sweep is not done, nobody is left, since the next one marks anew
-pub left-stale : (u v : Traced) (node : ℕ) (stopped : List Bool) → TakesSome u v → u.is_stale ≡ true → NoneIsLeft v node stopped
-left-stale u v node stopped takes stale fresh = absurd (false≢true (sym fresh ∙ ap (λ (x : Traced). x.is_stale) takes ∙ stale))
-
--- the collector keeps its parts where its graph of places and marks changes, but not the graph
+-- the collector keeps its parts where its marks change, but not its graph
 pub kept-graph : (c new : Collected) → new ≡ c → IsKept c → IsKept new
 kept-graph c new same kept = subst IsKept (sym same) kept
 
