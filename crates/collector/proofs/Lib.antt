@@ -7,3 +7,6 @@ pub mod HistoryLemmas
 pub mod FollowLemmas
 pub mod VerdictLemmas
 pub mod GoneLemmas
+pub mod LeftLemmas
+pub mod DropLemmas
+pub mod EndLemmas

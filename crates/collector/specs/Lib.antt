@@ -4,3 +4,4 @@ pub mod Taking
 pub mod Kept
 pub mod Following
 pub mod Sweeping
+pub mod Traced

@@ -1,7 +1,7 @@
 -- How a collector changes as it sweeps, and as it drops whom it stopped.
-use Rattle.std.specs.Prelude.{◌≡◌, ◌==◌, ◌<◌, ◌&&◌, ◌||◌, not, ℕ, Bool, true, false, List, map}
+use Rattle.std.specs.Prelude.{◌≡◌, ◌==◌, ◌&&◌, ◌||◌, not, ℕ, Bool, List, map}
 use Rattle.std.specs.List.{filter, list_any}
-use Rattle.crgc_ids.specs.Actor.{Actor, same_actor}
+use Rattle.crgc_ids.specs.Actor.{Actor}
 use Rattle.crgc_ids.specs.Nodes.{has_node}
 use Rattle.history_model.specs.declared.records.Stop.{Stop}
 use Rattle.history_model.specs.declared.records.Verdict.{Verdict}
@@ -10,20 +10,19 @@ use Rattle.history_model.specs.Compaction.{AreStopped, IsCompactedVerdict}
 use Rattle.history_model.specs.Folds.{Fold, is_lost}
 use Rattle.history_model.specs.Graph.{holds_actor, rising_actors}
 use Rattle.history_model.specs.Sweeps.{stop_of}
-use Rattle.pseudoroot_trace.specs.Marked.{IsSweepOf, MarkedActors, is_marked}
+use Rattle.pseudoroot_trace.specs.Marked.{IsSweepBy}
 use Rattle.shadow_graph.specs.Graph.{Graph, lost_in}
-use Rattle.shadow_graph.specs.Places.{actor_of}
 use Rattle.shadow_graph.specs.Seen.{is_dropped, is_known}
 use Rattle.shadow_graph.specs.Stands.{IsGraphOf}
 use Rattle.collector.specs.Collected.{Collected, flag_at, was_stopped}
 
 -- whether the actor is known, not on a lost node, and not marked
-abbrev pub is_unmarked : Graph → MarkedActors → Actor → Bool
-is_unmarked g marks a = is_known g a && (not (has_node (lost_in g) a.node) && not (is_marked marks a))
+abbrev pub is_unmarked : Graph → (Actor → Bool) → Actor → Bool
+is_unmarked g marked a = is_known g a && (not (has_node (lost_in g) a.node) && not (marked a))
 
 -- whether a sweep by the node stops the actor: it is the node's, was not stopped, and is not marked
-abbrev pub falls : Graph → MarkedActors → ℕ → List Bool → Actor → Bool
-falls g marks node stopped a = (a.node == node) && (not (flag_at stopped a.serial) && is_unmarked g marks a)
+abbrev pub falls : Graph → (Actor → Bool) → ℕ → List Bool → Actor → Bool
+falls g marked node stopped a = (a.node == node) && (not (flag_at stopped a.serial) && is_unmarked g marked a)
 
 -- the stops are those of the actors, at each fold that the graph stands for
 abbrev pub AreStopsOf : Graph → List Actor → List Stop → Type 0
@@ -41,12 +40,11 @@ stopped_actors stops = map (λ s. s.actor) stops
 abbrev pub SetsFlags : List Actor → List Bool → List Bool → Type 0
 SetsFlags actors old new = (k : ℕ) → flag_at new k ≡ (flag_at old k || list_any (λ a. a.serial == k) actors)
 
--- a sweep of the collector finds these actors, rising, and these are their stops
-pub record Finds (c : Collected) (actors : List Actor) (stops : List Stop) : Type 0 where
-  pub marks : MarkedActors
-  pub sweep : IsSweepOf c.graph marks
-  pub found : actors ≡ rising_actors (filter (falls c.graph marks c.node c.stopped) c.graph.shadows.names)
-  pub evidence : AreStopsOf c.graph actors stops
+-- a sweep by the node that leaves the graph so marked finds these actors, rising, and these are their stops
+pub record Finds (g : Graph) (marked : Actor → Bool) (node : ℕ) (stopped : List Bool) (actors : List Actor) (stops : List Stop) : Type 0 where
+  pub sweep : IsSweepBy g marked
+  pub found : actors ≡ rising_actors (filter (falls g marked node stopped) g.shadows.names)
+  pub evidence : AreStopsOf g actors stops
   pub each : stopped_actors stops ≡ actors
 
 -- the verdict is that of the sweep that leaves out the dropped, at each fold that the graph stands for; whom it stops counts as
@@ -63,26 +61,6 @@ pub record Sweeps (old new : Collected) (v : Verdict) : Type 0 where
 -- exactly whom the collector stopped is dropped, and nothing else changes
 pub record Compacts (old new : Collected) : Type 0 where
   pub dropped : (a : Actor) → is_dropped new.graph a ≡ was_stopped old a
-  pub stands : (cl : Cluster) (f : Fold) → IsGraphOf cl f old.graph → IsGraphOf cl f new.graph
-  pub node : new.node ≡ old.node
-  pub order : new.order ≡ old.order
-  pub stopped : new.stopped ≡ old.stopped
-
--- the actor is dropped if the collector stopped it, and nothing else changes
-pub record DropsAt (old new : Collected) (a : Actor) : Type 0 where
-  pub here : is_dropped new.graph a ≡ (is_dropped old.graph a || was_stopped old a)
-  pub others : (b : Actor) → same_actor a b ≡ false → is_dropped new.graph b ≡ is_dropped old.graph b
-  pub names : new.graph.shadows.names ≡ old.graph.shadows.names
-  pub stands : (cl : Cluster) (f : Fold) → IsGraphOf cl f old.graph → IsGraphOf cl f new.graph
-  pub node : new.node ≡ old.node
-  pub order : new.order ≡ old.order
-  pub stopped : new.stopped ≡ old.stopped
-
--- whom the collector stopped is dropped at the places below the number, and nobody is whom it did not stop; nothing else changes
-pub record DropsBelow (old new : Collected) (n : ℕ) : Type 0 where
-  pub only : (a : Actor) → is_dropped new.graph a ≡ true → was_stopped old a ≡ true
-  pub here : (p : ℕ) → p < n → was_stopped old (actor_of old.graph p) ≡ true → is_dropped new.graph (actor_of old.graph p) ≡ true
-  pub names : new.graph.shadows.names ≡ old.graph.shadows.names
   pub stands : (cl : Cluster) (f : Fold) → IsGraphOf cl f old.graph → IsGraphOf cl f new.graph
   pub node : new.node ≡ old.node
   pub order : new.order ≡ old.order

@@ -1,21 +1,23 @@
 //! The collector.
-ghost use Rattle.std.specs.Prelude.{◌≡◌, ◌+◌, ◌<◌, ◌≤◌, true, false, Ok, IfErr, IfOk, OnErr, OnOk, length, sum};
+ghost use Rattle.std.specs.Prelude.{◌≡◌, ◌++◌, ◌+◌, ◌<◌, ◌≤◌, true, false, Ok, IfErr, IfOk, OnErr, OnOk, length, sum};
+ghost use Rattle.std.specs.List.{AllByRecursion};
 ghost use Rattle.gossip_core.specs.Gossip.{IsFirstMissing};
-ghost use Rattle.shadow_graph.specs.Places.{ArePlaced, actor_of};
-ghost use Rattle.pseudoroot_trace.specs.Marked.{IsSweepOf};
-ghost use Rattle.collector.specs.Collected.{IsNew, IsSettled, node_count, was_stopped};
-ghost use Rattle.collector.specs.Kept.{IsKept};
+ghost use Rattle.pseudoroot_trace.specs.Marked.{IsSweepBy};
+ghost use Rattle.pseudoroot_trace.specs.Traced.{is_marked_in};
+ghost use Rattle.shadow_table.specs.Shadows.{is_named};
+ghost use Rattle.collector.specs.Collected.{IsNew, IsSettled, node_count};
 ghost use Rattle.collector.specs.Refusals.{IsFit, IsRefusal, read_as};
-ghost use Rattle.collector.specs.Sweeping.{Compacts, DropsAt, Finds, Sweeps};
+ghost use Rattle.collector.specs.Sweeping.{Compacts, Finds, SetsFlags, Sweeps};
 ghost use Rattle.collector.specs.Taking.{Folds, IsAnswer, IsTaken, Keeps, LeavesAsWas, Takes};
+ghost use Rattle.collector.specs.Traced.{DropsAll, HaveFallen, TakesSome};
 
 use crate::read::{TakeFault, read_whole};
-use crate::stopped::{is_set, make_room, set_all};
-use crate::stops::{actor_at, find_stopped, stops_of};
+use crate::stopped::{make_room, set_all};
+use crate::stops::{find_stopped, stops_of};
 use crgc_ids::{ActorId, Cut, NoMemory, NodeId};
 use gossip_core::GossipCore;
 use history_model::{Bulletin, StopList, Verdict};
-use pseudoroot_trace::{Marks, mark};
+use pseudoroot_trace::TracedGraph;
 use shadow_graph::ShadowGraph;
 use std::alloc::Global;
 use std::marker::Model;
@@ -29,29 +31,36 @@ pub enum Taken {
     Old,
 }
 
-/// The collector of one node. It knows nothing but the bulletins that it was given. It keeps its allocator. Contracts see its
-/// node, the bulletins that wait and the cut, the shadow graph, and whom it stopped.
+/// The collector of one node. It knows nothing but the bulletins that it was given. It keeps its allocator, the marks of its last
+/// sweep, and whom it stopped and did not drop yet. Contracts see its node, the bulletins that wait and the cut, the shadow
+/// graph, and whom it stopped.
 #[derive(Drop)]
 pub struct Collector {
     alloc: Global,
     node: NodeId,
     nodes: u8,
     order: GossipCore,
-    graph: ShadowGraph,
+    graph: TracedGraph,
     stopped: Vec<bool>,
+    gone: Vec<ActorId>,
 }
 
 impl Model for Collector {
     ghost use Rattle.std.specs.Prelude.{◌≡◌};
     ghost use Rattle.collector.specs.Collected.{Collected};
     ghost use Rattle.collector.specs.Kept.{IsKept};
+    ghost use Rattle.collector.specs.Traced.{AreGone, NoneIsLeft};
 
     ghost Value = { Collected };
 
-    ghost view = { λ c. record { node = c.node; order = c.order; graph = c.graph; stopped = c.stopped.items } };
+    ghost view = { λ c. record { node = c.node; order = c.order; graph = c.graph.graph; stopped = c.stopped.items } };
 
-    ghost invariant = { λ c. (c.nodes ≡ c.order.nodes)
-        × IsKept (record { node = c.node; order = c.order; graph = c.graph; stopped = c.stopped.items }) };
+    ghost invariant = { λ c. record {
+      nodes : c.nodes ≡ c.order.nodes;
+      kept : IsKept (record { node = c.node; order = c.order; graph = c.graph.graph; stopped = c.stopped.items });
+      left : NoneIsLeft c.graph c.node c.stopped.items;
+      gone : AreGone (record { node = c.node; order = c.order; graph = c.graph.graph; stopped = c.stopped.items }) c.gone.items;
+    } };
 }
 
 impl Collector {
@@ -67,8 +76,9 @@ impl Collector {
             node,
             nodes,
             order,
-            graph: ShadowGraph::new(alloc, nodes),
+            graph: TracedGraph::new(alloc, nodes),
             stopped: Vec::new(alloc),
+            gone: Vec::new(alloc),
         })
     }
 
@@ -105,7 +115,7 @@ impl Collector {
     pub fn graph(&self) -> &ShadowGraph
         ensures { result.now ≡ self.now.graph }
     {
-        &self.graph
+        self.graph.graph()
     }
 
     /// The bytes of the origin's bulletin of this number are taken. It waits until all before it are folded, and then it is
@@ -197,80 +207,80 @@ impl Collector {
     }
 
     /// The verdict of the node's sweep at the cut: it stops each actor of its node that is known, not on a lost node, not marked
-    /// and not stopped before, and says why. Whom it stops is remembered. After `NoMemory` all is as before. Linear time in the
-    /// graph, and in proportion to n log n for n stops and their owners.
+    /// and not stopped before, and says why. Whom it stops is remembered. After `NoMemory` all is as before. Constant time where
+    /// nothing was folded or dropped since the last sweep; else time in proportion to what the folds since then touched and what
+    /// hung on it, times a logarithm at most, on average. Linear time in the graph where a node was newly lost, or where the last
+    /// sweep ran out of memory.
     pub fn sweep(&mut self) -> Result<Verdict, NoMemory>
         requires { IsSettled self.old }
         ensures ok { IfOk result (Sweeps self.old self.new) }
         ensures err { OnErr result (self.new ≡ self.old) }
     {
-        let (found, stops) = self.find_stops()?;
-        make_room(&mut self.stopped, found.as_slice())?;
-        set_all(&mut self.stopped, found.as_slice());
+        self.graph.sweep()?;
+        let stopped = self.stopped.as_slice();
+        let (found, stops) = find_stops(self.alloc, &mut self.graph, self.node, stopped)?;
+        remember(&mut self.stopped, &mut self.gone, found.as_slice())?;
+        self.graph.keep_marks();
         Ok(Verdict {
             node: self.node,
             cut: self.order.cut(),
-            lost: self.graph.lost(),
+            lost: self.graph.graph().lost(),
             stops,
         })
     }
 
-    /// The actors that a sweep stops now, rising, and their stops.
-    fn find_stops(&self) -> Result<(Vec<ActorId>, StopList), NoMemory>
-        ensures { IfOk result (λ r. Finds self.now r.0.items r.1) }
-    {
-        let marks = marks_over(self.alloc, &self.graph)?;
-        let stopped = self.stopped.as_slice();
-        let found = find_stopped(self.alloc, &self.graph, &marks, self.node, stopped)?;
-        let stops = stops_of(self.alloc, &self.graph, found.as_slice())?;
-        Ok((found, stops))
-    }
-
     /// Whom this collector stopped is dropped from its graph: later verdicts are the same without them. It takes no memory.
-    /// Linear time in the number of places, on average.
+    /// Linear time in the number of actors that it stopped and did not drop yet, on average.
     pub fn compact(&mut self)
         ensures { Compacts self.old self.new }
     {
-        for place in 0..self.place_count() {
-            self.drop_if_stopped(place);
-        }
-    }
-
-    /// How many places the graph has.
-    fn place_count(&self) -> u32
-        ensures count { result ≡ length self.now.graph.shadows.names }
-        ensures placed { ArePlaced self.now.graph }
-        ensures kept { IsKept self.now }
-    {
-        self.graph.place_count()
-    }
-
-    /// The actor at the place is dropped, if this collector stopped it.
-    fn drop_if_stopped(&mut self, place: u32)
-        requires { place < length self.old.graph.shadows.names }
-        ensures { DropsAt self.old self.new (actor_of self.old.graph place) }
-    {
-        let actor = actor_at(&self.graph, place);
-        if !self.is_stopped(actor) {
-            return;
-        }
-        self.graph.drop_actor(actor);
-    }
-
-    /// Whether this collector stopped the actor.
-    fn is_stopped(&self, actor: ActorId) -> bool
-        ensures { result ≡ was_stopped self.now actor }
-    {
-        actor.node() == self.node && is_set(self.stopped.as_slice(), actor.serial())
+        drop_all(&mut self.graph, self.gone.as_slice());
+        self.gone.clear();
     }
 }
 
-/// The marks of a sweep over the graph.
-fn marks_over(alloc: Global, graph: &ShadowGraph) -> Result<Marks, NoMemory>
-    ensures { IfOk result (IsSweepOf graph.now) }
+/// The actors that a sweep by the node stops now, rising, and their stops, where these were stopped before.
+fn find_stops(
+    alloc: Global,
+    graph: &mut TracedGraph,
+    node: NodeId,
+    stopped: &[bool],
+) -> Result<(Vec<ActorId>, StopList), NoMemory>
+    requires sweep { IsSweepBy graph.old.graph (is_marked_in graph.old) }
+    requires fallen { HaveFallen graph.old node stopped.now }
+    ensures finds { IfOk result (λ r. Finds graph.old.graph (is_marked_in graph.old) node stopped.now r.0.items r.1) }
+    ensures takes { TakesSome graph.old graph.new }
 {
-    let mut marks = Marks::new(alloc);
-    marks.reserve(graph)?;
-    mark(graph, &mut marks);
-    Ok(marks)
+    let found = find_stopped(alloc, graph, node, stopped)?;
+    let stops = stops_of(alloc, graph.graph(), found.as_slice())?;
+    Ok((found, stops))
+}
+
+/// The actors are stopped, and to be dropped. After `NoMemory` nothing changes.
+fn remember(
+    stopped: &mut Vec<bool>,
+    gone: &mut Vec<ActorId>,
+    found: &[ActorId],
+) -> Result<(), NoMemory>
+    ensures sets { OnOk result (SetsFlags found.now stopped.old.items stopped.new.items) }
+    ensures gone { OnOk result (gone.new.items ≡ gone.old.items ++ found.now) }
+    ensures err { OnErr result ((stopped.new.items ≡ stopped.old.items) × (gone.new.items ≡ gone.old.items)) }
+{
+    if gone.reserve(found.len()).is_err() {
+        return Err(NoMemory);
+    }
+    make_room(stopped, found)?;
+    set_all(stopped, found);
+    gone.extend_from_slice(found).unwrap();
+    Ok(())
+}
+
+/// The actors are dropped. Linear time in their number, on average.
+fn drop_all(graph: &mut TracedGraph, gone: &[ActorId])
+    requires { AllByRecursion (λ a. is_named graph.old.graph.shadows.names a ≡ true) gone.now }
+    ensures { DropsAll gone.now graph.old graph.new }
+{
+    for actor in gone {
+        graph.drop_actor(*actor);
+    }
 }

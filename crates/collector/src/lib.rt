@@ -9,3 +9,6 @@ mod stops;
 
 pub use collector::{Collector, Taken};
 pub use read::TakeFault;
+
+#[cfg(test)]
+mod tests;

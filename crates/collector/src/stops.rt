@@ -1,53 +1,82 @@
 //! Whom a sweep stops, with the evidence.
-ghost use Rattle.std.specs.Prelude.{◌≡◌, ◌∷◌, [], ◌++◌, ◌<◌, false, IfOk, OnOk, length};
+ghost use Rattle.std.specs.Prelude.{◌≡◌, ◌<◌, ℕ, true, false, Ok, IfOk, OnOk, length};
 ghost use Rattle.std.specs.List.{AllByRecursion, filter};
 ghost use Rattle.crgc_ids.specs.Nodes.{has_node};
 ghost use Rattle.history_model.specs.Graph.{rising_actors};
 ghost use Rattle.shadow_graph.specs.Graph.{lost_in};
-ghost use Rattle.shadow_graph.specs.Places.{actor_of};
+ghost use Rattle.kept_marks.specs.Kept.{IsEmpty};
+ghost use Rattle.kept_marks.specs.PlaceSet.{has_place};
+ghost use Rattle.pseudoroot_trace.specs.Traced.{TakesFallen, is_marked_in};
+ghost use Rattle.shadow_graph.specs.Places.{ArePlaced, actor_of};
 ghost use Rattle.shadow_graph.specs.Seen.{is_dropped};
 ghost use Rattle.collector.specs.Sweeping.{AreStopsOf, IsStopOf, falls, is_unmarked, stopped_actors};
+ghost use Rattle.collector.specs.Traced.{FindsAt, HaveFallen, TakesSome};
 
 use crate::stopped::is_set;
 use crgc_ids::{ActorId, NoMemory, NodeId};
 use history_model::{Stop, StopList};
-use pseudoroot_trace::Marks;
+use pseudoroot_trace::TracedGraph;
 use shadow_graph::ShadowGraph;
 use std::alloc::Global;
 
-/// The actors that a sweep by the node stops, rising: its own that were not stopped before, and are known, not lost and not
-/// marked. Linear time in the number of places, and in proportion to n log n for n such actors.
+/// The actors that a sweep by the node stops, rising: those at fallen places that are its own, were not stopped before, and are
+/// known, not lost and not marked. All fallen places are taken out, or after `NoMemory` some. Time in proportion to n log n for n
+/// fallen places, on average.
 pub fn find_stopped(
     alloc: Global,
-    graph: &ShadowGraph,
-    marks: &Marks,
+    graph: &mut TracedGraph,
     node: NodeId,
     stopped: &[bool],
 ) -> Result<Vec<ActorId>, NoMemory>
-    ensures { IfOk result (λ v. v.items ≡ rising_actors (filter (falls graph.now marks.now node stopped.now) graph.now.shadows.names)) }
+    requires { HaveFallen graph.old node stopped.now }
+    ensures found { IfOk result (λ v. v.items ≡ rising_actors
+        (filter (falls graph.old.graph (is_marked_in graph.old) node stopped.now) graph.old.graph.shadows.names)) }
+    ensures takes { TakesSome graph.old graph.new }
+    ensures placed { ArePlaced graph.old.graph }
 {
+    let _places = graph.graph().place_count();
     let mut found = Vec::new(alloc);
-    for place in 0..graph.place_count() {
-        push_if_falls(graph, marks, node, stopped, place, &mut found)?;
-    }
+    while find_next(graph, node, stopped, &mut found)? {}
     Ok(sorted(found))
 }
 
-/// The actor at the place comes last, if the sweep stops it.
+/// A fallen place is taken out, and the actor there comes last, if the sweep stops it. False where no place has fallen.
+fn find_next(
+    graph: &mut TracedGraph,
+    node: NodeId,
+    stopped: &[bool],
+    found: &mut Vec<ActorId>,
+) -> Result<bool, NoMemory>
+    ensures takes { TakesSome graph.old graph.new }
+    ensures next { result ≡ Ok true → (p : ℕ) × TakesFallen graph.old graph.new p × (has_place graph.old.kept.fallen p ≡ true)
+        × FindsAt graph.old node stopped.now p found.old.items found.new.items }
+    ensures none { result ≡ Ok false → IsEmpty graph.old.kept.fallen }
+    ensures same { result ≡ Ok false → (graph.new ≡ graph.old) × (found.new.items ≡ found.old.items) }
+{
+    let Some(place) = graph.pop_fallen() else {
+        return Ok(false);
+    };
+    push_if_falls(graph, node, stopped, place, found)?;
+    Ok(true)
+}
+
+/// The actor at the place, if there is one, comes last, if the sweep stops it.
 fn push_if_falls(
-    graph: &ShadowGraph,
-    marks: &Marks,
+    graph: &TracedGraph,
     node: NodeId,
     stopped: &[bool],
     place: u32,
     found: &mut Vec<ActorId>,
 ) -> Result<(), NoMemory>
-    requires { place < length graph.now.shadows.names }
-    ensures { OnOk result (found.new.items ≡ found.old.items
-        ++ filter (falls graph.now marks.now node stopped.now) (actor_of graph.now place ∷ [])) }
+    ensures { OnOk result (FindsAt graph.now node stopped.now place found.old.items found.new.items) }
 {
-    let actor = actor_at(graph, place);
-    if !falls(graph, marks, node, stopped, actor) {
+    let shadows = graph.graph();
+    let places = shadows.place_count();
+    if place >= places {
+        return Ok(());
+    }
+    let actor = actor_at(shadows, place);
+    if !falls(graph, node, stopped, actor) {
         return Ok(());
     }
     match found.push(actor) {
@@ -57,7 +86,7 @@ fn push_if_falls(
 }
 
 /// The actor at the place.
-pub fn actor_at(graph: &ShadowGraph, place: u32) -> ActorId
+fn actor_at(graph: &ShadowGraph, place: u32) -> ActorId
     requires { place < length graph.now.shadows.names }
     ensures { result ≡ actor_of graph.now place }
 {
@@ -65,17 +94,17 @@ pub fn actor_at(graph: &ShadowGraph, place: u32) -> ActorId
 }
 
 /// Whether the sweep stops the actor. Constant time on average.
-fn falls(graph: &ShadowGraph, marks: &Marks, node: NodeId, stopped: &[bool], actor: ActorId) -> bool
-    ensures { result ≡ falls graph.now marks.now node stopped.now actor }
+fn falls(graph: &TracedGraph, node: NodeId, stopped: &[bool], actor: ActorId) -> bool
+    ensures { result ≡ falls graph.now.graph (is_marked_in graph.now) node stopped.now actor }
 {
-    actor.node() == node && !is_set(stopped, actor.serial()) && is_unmarked(graph, marks, actor)
+    actor.node() == node && !is_set(stopped, actor.serial()) && is_unmarked(graph, actor)
 }
 
 /// Whether the actor is known, not on a lost node, and not marked. Constant time on average.
-fn is_unmarked(graph: &ShadowGraph, marks: &Marks, actor: ActorId) -> bool
-    ensures { result ≡ is_unmarked graph.now marks.now actor }
+fn is_unmarked(graph: &TracedGraph, actor: ActorId) -> bool
+    ensures { result ≡ is_unmarked graph.now.graph (is_marked_in graph.now) actor }
 {
-    graph.is_known(actor) && !is_lost(graph, actor) && !marks.is_marked(actor)
+    graph.graph().is_known(actor) && !is_lost(graph.graph(), actor) && !graph.is_marked(actor)
 }
 
 /// Whether the actor's node is lost.

@@ -9,7 +9,7 @@ use Rattle.kept_marks.specs.Kept.{IsEmpty, IsKept, IsSame, IsSpared, IsTouched, 
 use Rattle.kept_marks.proofs.StepLemmas.{in-at, in-other, kept_of, shrink, the-support}
 
 -- the same supports, by place
-stands-same : (g : Graph) (s s' : List (Option ℕ)) (a : ℕ) → ((b : ℕ) → support_of s' b ≡ support_of s b) → Stands g s a → Stands g s' a
+pub stands-same : (g : Graph) (s s' : List (Option ℕ)) (a : ℕ) → ((b : ℕ) → support_of s' b ≡ support_of s b) → Stands g s a → Stands g s' a
 stands-same g s s' a same stands =
     record {
       support = λ b h. elim (stands.support b (sym (same a) ∙ h)) [

@@ -109,6 +109,7 @@ impl KeptMarks {
     pub fn touch(&mut self, place: u32)
         requires { place < length self.old.supports }
         ensures value { self.new ≡ record self.old { touched = slice_set self.old.touched place true } }
+        ensures there { has_place self.new.touched place ≡ true }
         ensures kept { (g : Graph) → place < g.places → IsKept g self.old → IsKept g self.new }
     {
         self.touched.put(place);
@@ -134,6 +135,7 @@ impl KeptMarks {
         requires settled { IsEmpty self.old.queued }
         ensures kept { IsKept (G.graph graph.now) self.new }
         ensures watched { KeepsWatch self.old self.new }
+        ensures all { (a : ℕ) → a < (G.graph graph.now).places → has_place self.new.touched a ≡ true }
         ensures room { length self.new.supports ≡ length self.old.supports }
     {
         let places = graph.place_count();

@@ -1,3 +1,6 @@
 pub mod GraphLemmas
 pub mod SweepLemmas
 pub mod NamedLemmas
+pub mod TouchLemmas
+pub mod TracedLemmas
+pub mod SweptLemmas

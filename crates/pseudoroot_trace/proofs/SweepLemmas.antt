@@ -25,7 +25,7 @@ use Rattle.shadow_graph.specs.Seen.{is_dropped, is_known}
 use Rattle.shadow_graph.specs.Stands.{IsGraphOf}
 use Rattle.shadow_table.specs.Shadows.{flag_pair, is_named, place_in}
 use Rattle.pseudoroot_trace.proofs.GraphLemmas.{is-or-not, leads-parts, positive-there, step-from, step-to}
-use Rattle.pseudoroot_trace.specs.Marked.{IsReachedIn, IsSweepOf, MarkedActors, is_marked}
+use Rattle.pseudoroot_trace.specs.Marked.{IsReachedIn, IsSweepBy}
 use Rattle.pseudoroot_trace.specs.Trace.{is_out, is_pseudoroot, is_start, leads, may_act, place_graph}
 
 -- ---- tests
@@ -34,7 +34,7 @@ both-true : (a b : Bool) → (a && b) ≡ true → (a ≡ true) × (b ≡ true)
 both-true true b e = (refl, e)
 both-true false b e = absurd (false≢true e)
 
-and-true : (a b : Bool) → a ≡ true → b ≡ true → (a && b) ≡ true
+pub and-true : (a b : Bool) → a ≡ true → b ≡ true → (a && b) ≡ true
 and-true a b p q = ap (λ v. v && b) p ∙ q
 
 not-true : (a : Bool) → not a ≡ true → a ≡ false
@@ -192,8 +192,8 @@ module _ (cl : Cluster) (f : Fold) (g : Graph) (placed : ArePlaced g) (stands : 
       )
 
 -- marks that are what is reached are those of the sweep
-pub traced-sweep : (g : Graph) (m : MarkedActors) → ArePlaced g → ((a : Actor) → (is_marked m a ≡ true) ↔ IsReachedIn g a) → IsSweepOf g m
-traced-sweep g m placed traced = record {
+pub traced-sweep : (g : Graph) (passes : Actor → Bool) → ArePlaced g → ((a : Actor) → (passes a ≡ true) ↔ IsReachedIn g a) → IsSweepBy g passes
+traced-sweep g passes placed traced = record {
   marked = λ cl f stands a. (
     (λ t. reached-marked cl f g placed stands a ((traced a).0 t)),
     (λ marked. (traced a).1 (marked-reached cl f g placed stands a marked)),
@@ -205,5 +205,5 @@ traced-sweep g m placed traced = record {
       ));
 }
   where
-    not-marked : (a : Actor) → (is_marked m a ≡ true → ⊥) → is_marked m a ≡ false
-    not-marked a none = elim (is-or-not (is_marked m a)) [ inl t ↦ absurd (none t) | inr e ↦ e ]
+    not-marked : (a : Actor) → (passes a ≡ true → ⊥) → passes a ≡ false
+    not-marked a none = elim (is-or-not (passes a)) [ inl t ↦ absurd (none t) | inr e ↦ e ]

@@ -34,11 +34,15 @@ abbrev pub AreNamedBelow : Graph → Marking → ℕ → List Actor → Type 0
 AreNamedBelow g marks n actors =
     (a : Actor) → IsAmong a actors ↔ ((p : ℕ) × (p < n) × (places.is_marked marks p ≡ true) × (actor_of g p ≡ a))
 
--- at each fold that the graph stands for, the marks are those of the sweep that leaves out the dropped; and its dead are the
--- actors that are known, whose node is not lost, and that are not marked
-pub record IsSweepOf (g : Graph) (m : MarkedActors) : Type 0 where
+-- at each fold that the graph stands for, exactly whom the sweep marks that leaves out the dropped passes the test; and its dead
+-- are the actors that are known, whose node is not lost, and that do not pass
+pub record IsSweepBy (g : Graph) (passes : Actor → Bool) : Type 0 where
   pub marked : (cl : Cluster) (f : Fold) → IsGraphOf cl f g → (a : Actor)
-      → (is_marked m a ≡ true) ↔ IsMarked cl (is_lost cl f) (is_dropped g) f a
+      → (passes a ≡ true) ↔ IsMarked cl (is_lost cl f) (is_dropped g) f a
   pub dead : (cl : Cluster) (f : Fold) → IsGraphOf cl f g → (a : Actor)
       → IsAmong a (compacted_dead cl (is_lost cl f) (is_dropped g) f)
-      ↔ ((is_known g a ≡ true) × (has_node (lost_in g) a.node ≡ false) × (is_marked m a ≡ false))
+      ↔ ((is_known g a ≡ true) × (has_node (lost_in g) a.node ≡ false) × (passes a ≡ false))
+
+-- the marks are those of the sweep
+abbrev pub IsSweepOf : Graph → MarkedActors → Type 0
+IsSweepOf g m = IsSweepBy g (is_marked m)

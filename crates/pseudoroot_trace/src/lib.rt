@@ -3,10 +3,13 @@
 
 pub mod laws;
 mod marks;
+mod touch;
 mod trace;
+mod traced;
 
 pub use marks::{Marks, mark};
 pub use trace::Trace;
+pub use traced::TracedGraph;
 
 #[cfg(test)]
 mod tests;

@@ -4,6 +4,7 @@ use Rattle.std.proofs.lemmas.Bool.{false≢true}
 use Rattle.std.proofs.lemmas.List.{take_all}
 use Rattle.std.proofs.lemmas.List.Sums.{sum_by-cons}
 use Rattle.std.specs.List.{sum_by}
+use Rattle.crgc_ids.specs.Actor.{Actor}
 use Rattle.crgc_ids.specs.LostNodes.{lost_nodes}
 use Rattle.crgc_ids.specs.Members.{IsAmong, IsPart}
 use Rattle.crgc_ids.specs.Nodes.{has_node, nodes_below}
@@ -14,6 +15,7 @@ use Rattle.history_model.specs.declared.records.Delta.{Delta}
 use Rattle.history_model.specs.declared.records.Window.{Window}
 use Rattle.history_model.specs.Folds.{links_into}
 use Rattle.history_model.specs.Ledgers.{ledger_names}
+use Rattle.history_model.specs.MoreFolded.{link_rows, own_rows}
 use Rattle.history_model.specs.Streams.{Notice, delta, window_of, final_of}
 use Rattle.history_model.specs.Tells.{IsOrdered, Tells, bulletin_ledger, origin_of}
 use Rattle.edge_table.specs.Table.{Edges}
@@ -22,14 +24,16 @@ use Rattle.shadow_table.specs.Shadows.{Shadows}
 use Rattle.shadow_table.specs.declared.table.Shadow.{Shadow}
 use Rattle.undo_log.specs.declared.corrections.Correction.{Correction}
 use Rattle.shadow_rows.specs.Rows.{IsLogCovered, NamesRows}
+use Rattle.shadow_rows.specs.Touched.{LeavesActor, NamesMore, is_touched}
 use Rattle.shadow_graph.specs.Graph.{Graph, lost_in}
 use Rattle.shadow_graph.specs.Kept.{AreWithin, IsKept, lost_count}
 use Rattle.shadow_rows.specs.Losing.{Corrects, LosesNodes, gain_before, is_newly_lost}
 use Rattle.shadow_rows.specs.Pairs.{KeepsEnds}
 use Rattle.shadow_rows.specs.Settled.{IsCovered}
 use Rattle.shadow_rows.specs.Folded.{CountsFold}
-use Rattle.shadow_graph.specs.Taken.{ClosesLink, FoldsIn, TakesIn}
+use Rattle.shadow_graph.specs.Taken.{ClosesLink, FoldsIn, LeavesOthers, TakesIn, touches}
 use Rattle.shadow_rows.proofs.AddedLemmas.{tabled-counted}
+use Rattle.shadow_rows.proofs.TouchLemmas.{leaves-untouched, or-parts}
 use Rattle.shadow_graph.proofs.GraphLemmas.{graph-final, graph-more}
 
 -- ---- more nodes are lost
@@ -95,6 +99,21 @@ loses-seen log before before' after after' s t e f m n same same' loses =
     let now = moved cl fold few part below logs was in
     record { received = now.received; told = now.told; admitted = now.admitted; flags = now.flags; given = now.given; released = now.released }
 
+-- where no node is newly lost, nothing has to be settled
+pub loses-none : (log : List (List Correction)) (before after : List ℕ) (s : Shadows) (e : Edges) → before ≡ after → LosesNodes log before after s s e e
+loses-none log before after s e same = λ cl fold few part below logs counts. subst (λ xs. CountsFold cl (has_node xs) fold s e) same counts
+
+pub kept-closed : (s : Shadows) (e : Edges) (log : List (List Correction)) (finals finals' : Noted) (lost cut : List ℕ) → IsKept s e log finals lost cut → finals'.nodes ≡ finals.nodes → lost ≡ lost_nodes finals'.nodes (links_of finals') → IsKept s e log finals' lost cut
+kept-closed s e log finals finals' lost cut kept nodes by_finals = record {
+  tabled = kept.tabled;
+  covered = kept.covered;
+  within = kept.within;
+  by_finals = by_finals;
+  counts = kept.counts;
+  long = kept.long;
+  few = subst (λ n. n ≤ 16) (sym nodes) kept.few;
+}
+
 -- ---- a bulletin is folded
 
 no-link-delta : (o : ℕ) (d : Delta) (n : Notice) → Tells o (bulletins.Delta d) n → links_into o (n ∷ []) ≡ []
@@ -112,10 +131,17 @@ link-final o w (delta facts) tells = absurd tells
 link-final o w (window_of s facts) tells = absurd tells
 link-final o w (final_of s facts) tells = ap (λ (x : ℕ). (x, o) ∷ []) (sym tells.1)
 
+leaves-taken : (o : ℕ) (b : Bulletin) (g h : Graph) → TakesIn o b g h → (a : Actor) → touches (lost_in g) b a ≡ false → LeavesActor g.shadows h.shadows g.edges h.edges a
+leaves-taken o b g h takes a apart =
+    let parts = or-parts (is_touched (own_rows b) a) (is_touched (link_rows (has_node (lost_in g)) b) a) apart in
+    leaves-untouched o (not (has_node (lost_in g) o)) (own_rows b) (link_rows (has_node (lost_in g)) b) g.shadows h.shadows g.edges h.edges a parts.0 parts.1 takes.rows
+
 folds-more : (o : ℕ) (b : Bulletin) (g h : Graph) → g.finals.nodes ≤ 16 → length g.cut ≡ 16 → IsOrdered b → o < g.finals.nodes → ((n : Notice) → Tells o b n → links_into o (n ∷ []) ≡ []) → TakesIn o b g h → h.finals ≡ g.finals → FoldsIn o b g h
 folds-more o b g h few long order inside no_link takes same = record {
   stands = λ cl f n tells stands. graph-more cl f o b n g h (subst (λ k. o < k) stands.nodes inside) (omega arith) tells order (no_link n tells) takes same stands;
   names = takes.names;
+  more = takes.more;
+  leaves = λ a apart _. leaves-taken o b g h takes a apart;
   dropped = λ a. ap (λ (x : Shadow). x.dropped) (takes.rows.shadows a);
   cut = takes.cut;
   nodes = ap (λ (x : Noted). x.nodes) same;
@@ -138,6 +164,13 @@ folds-final w g m h few long order inside takes same closes =
     record {
       stands = λ cl f n tells stands. graph-final cl f o w.from b n g m h (subst (λ k. k ≤ 16) stands.nodes few) (subst (λ k. o < k) stands.nodes inside) (omega arith) tells order (link-final o w n tells) takes same nodes noted closes.cut closes.log closes.names counts stands;
       names = subst (λ ns. NamesRows g.shadows.names ns (ledger_names (bulletin_ledger b))) (sym closes.names) takes.names;
+      more = (takes.more.0, closes.names ∙ takes.more.1);
+      leaves = λ a apart none. (
+          let same_lost = none ∙ sym lost in
+          let taken = leaves-taken o b g m takes a apart in
+          subst (λ d. LeavesActor g.shadows h.shadows g.edges d a) (sym (closes.none.edges same_lost))
+          (subst (λ s. LeavesActor g.shadows s g.edges m.edges a) (sym (closes.none.shadows same_lost)) taken)
+          );
       dropped = λ a. closes.dropped a ∙ ap (λ (x : Shadow). x.dropped) (takes.rows.shadows a);
       cut = closes.cut ∙ takes.cut;
       nodes = nodes;

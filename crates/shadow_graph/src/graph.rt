@@ -318,13 +318,11 @@ impl ShadowGraph {
     {
         let before = self.lost;
         self.finals.note_final(from, at);
-        self.lost = self.finals.lost();
-        settle_lost(
-            &mut self.shadows,
-            &mut self.edges,
-            &self.log,
-            before,
-            self.lost,
-        );
+        let after = self.finals.lost();
+        if after == before {
+            return;
+        }
+        self.lost = after;
+        settle_lost(&mut self.shadows, &mut self.edges, &self.log, before, after);
     }
 }

@@ -8,3 +8,4 @@ pub mod LogLemmas
 pub mod AddedLemmas
 pub mod SettleLemmas
 pub mod LosingLemmas
+pub mod TouchLemmas

@@ -4,3 +4,4 @@ pub mod Settled
 pub mod Rows
 pub mod Folded
 pub mod Losing
+pub mod Touched

@@ -11,6 +11,7 @@ ghost use Rattle.undo_log.specs.declared.corrections.Side.TheVariants as sides;
 ghost use Rattle.shadow_rows.specs.Rows.{AddsLog, AddsRows, AreSmall, IsLogCovered, NamesRows};
 ghost use Rattle.shadow_rows.specs.Pairs.{KeepsEnds};
 ghost use Rattle.shadow_rows.specs.Tabled.{ArePairs, AreTabled, ExtendsEdges};
+ghost use Rattle.shadow_rows.specs.Touched.{NamesMore};
 
 use crate::count::count_told;
 use crate::edges::release_all;
@@ -71,6 +72,7 @@ pub fn add_delta(
     ensures adds { OnOk result (AddsRows delta.now.node counts (delta_ledger delta.now) no_rows shadows.old shadows.new edges.old edges.new) }
     ensures noted { OnOk result (AddsLog delta.now.node (bulletins.Delta delta.now) log.old log.new) }
     ensures named { OnOk result (NamesRows shadows.old.names shadows.new.names (ledger_names (delta_ledger delta.now))) }
+    ensures more { OnOk result (NamesMore shadows.old.names shadows.new.names) }
     ensures fits { OnOk result (CountsFit (delta_ledger delta.now)) }
     ensures covered { IsLogCovered shadows.new edges.new log.new }
     ensures tabled { AreTabled shadows.new.names edges.new }

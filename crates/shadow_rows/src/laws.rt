@@ -1,5 +1,7 @@
 //! Laws of the definitions. Each function does nothing, and its contract is the law.
-ghost use Rattle.std.specs.Prelude.{◌<◌, ℕ, Bool, List, not};
+ghost use Rattle.std.specs.Prelude.{◌≡◌, ◌<◌, ℕ, Bool, List, false, not};
+ghost use Rattle.crgc_ids.specs.Actor.{Actor};
+ghost use Rattle.history_model.specs.Ledgers.{Ledger};
 ghost use Rattle.history_model.specs.declared.records.Bulletin.{Bulletin};
 ghost use Rattle.history_model.specs.Cluster.{Cluster};
 ghost use Rattle.history_model.specs.Folds.{Fold};
@@ -11,6 +13,7 @@ ghost use Rattle.shadow_table.specs.Shadows.{Shadows};
 ghost use Rattle.undo_log.specs.declared.corrections.Correction.{Correction};
 ghost use Rattle.shadow_rows.specs.Rows.{AddsLog, AddsRows, Settles};
 ghost use Rattle.shadow_rows.specs.Folded.{CountsFold, LogsFold};
+ghost use Rattle.shadow_rows.specs.Touched.{LeavesActor, is_touched};
 
 /// Counts that stand for a fold and take in the rows of a bulletin stand for the fold with the bulletin, for any nodes taken as
 /// lost; and so does the log.
@@ -28,4 +31,10 @@ pub fn corrections_lose_a_node()
     ensures { (cl : Cluster) (k : ℕ) (lost more : ℕ → Bool) (f : Fold) (l : List (List Correction)) (s t : Shadows) (d e : Edges)
         → k < cl.nodes → IsLostToo k lost more → LogsFold cl f l → CountsFold cl lost f s d → Settles k l s t d e
         → CountsFold cl more f t e }
+{}
+
+/// Rows leave as it was what is known of an actor that they do not touch, and all references to it.
+pub fn rows_leave_others_as_they_were()
+    ensures { (node : ℕ) (counts : Bool) (own link : Ledger) (s t : Shadows) (d e : Edges) (a : Actor) → is_touched own a ≡ false
+        → is_touched link a ≡ false → AddsRows node counts own link s t d e → LeavesActor s t d e a }
 {}

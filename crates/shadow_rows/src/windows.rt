@@ -11,6 +11,7 @@ ghost use Rattle.undo_log.specs.declared.corrections.Side.TheVariants as sides;
 ghost use Rattle.shadow_rows.specs.Rows.{AddsLog, AddsRows, AreSmall, IsLogCovered, NamesRows};
 ghost use Rattle.shadow_rows.specs.Pairs.{KeepsEnds};
 ghost use Rattle.shadow_rows.specs.Tabled.{ArePairs, AreTabled, ExtendsEdges};
+ghost use Rattle.shadow_rows.specs.Touched.{NamesMore};
 
 use crate::count::count_admitted;
 use crate::grow::{cut_back, grow};
@@ -70,6 +71,7 @@ pub fn add_window(
     ensures noted { OnOk result (AddsLog window.now.at (bulletins.Window window.now) log.old log.new) }
     ensures noted_final { OnOk result (AddsLog window.now.at (bulletins.Final window.now) log.old log.new) }
     ensures named { OnOk result (NamesRows shadows.old.names shadows.new.names (ledger_names (window_ledger window.now))) }
+    ensures more { OnOk result (NamesMore shadows.old.names shadows.new.names) }
     ensures fits { OnOk result (CountsFit (window_ledger window.now)) }
     ensures covered { IsLogCovered shadows.new edges.new log.new }
     ensures tabled { AreTabled shadows.new.names edges.new }

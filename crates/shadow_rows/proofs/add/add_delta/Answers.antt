@@ -36,6 +36,9 @@ pub returns-in-Ok-clause-named : goal.returns-in-Ok-clause-named
 returns-in-Ok-clause-named c =
     subst (λ (ns : List Actor). NamesRows c.args.shadows.now.names ns (ledger_names (delta_ledger c.args.delta.now))) (sym c.count_delta.ensures.names) c.in-Ok.ensures.named
 
+pub returns-in-Ok-clause-more : goal.returns-in-Ok-clause-more
+returns-in-Ok-clause-more c = (c.prepare_delta.ensures.shadows.more, c.count_delta.ensures.names ∙ c.prepare_delta.ensures.shadows.names)
+
 pub returns-in-Ok-clause-covered : goal.returns-in-Ok-clause-covered
 returns-in-Ok-clause-covered c =
     let d = c.args.delta.now in

@@ -35,6 +35,9 @@ pub returns-in-Ok-clause-named : goal.returns-in-Ok-clause-named
 returns-in-Ok-clause-named c =
     subst (λ (ns : List Actor). NamesRows c.args.shadows.now.names ns (ledger_names (window_ledger c.args.window.now))) (sym c.count_window.ensures.names) c.in-Ok.ensures.named
 
+pub returns-in-Ok-clause-more : goal.returns-in-Ok-clause-more
+returns-in-Ok-clause-more c = (c.prepare_window.ensures.shadows.more, c.count_window.ensures.names ∙ c.prepare_window.ensures.shadows.names)
+
 pub returns-in-Ok-clause-covered : goal.returns-in-Ok-clause-covered
 returns-in-Ok-clause-covered c =
     let d = c.args.window.now in

@@ -5,15 +5,16 @@ use Rattle.crgc_ids.proofs.SuccessLaws.{at_success}
 use Rattle.collector.specs.Collected.{Collected, node_count}
 use Rattle.collector.specs.Refusals.{IsFit}
 use Rattle.collector.specs.Taking.{Keeps}
+use Rattle.collector.proofs.DropLemmas.{gone-same}
 use Rattle.collector.proofs.KeepLemmas.{keeps-kept}
 use Rattle.collector.proofs.collector.Collector.keep.Goals as goal
 use Rattle.collector.proofs.collector.Collector.keep.Goals.{Else-is_err}
 
 abbrev before : Else-is_err → Collected
-before c = record { node = c.self.inside.node; order = c.self.inside.order; graph = c.self.inside.graph; stopped = c.self.inside.stopped.items }
+before c = record { node = c.self.inside.node; order = c.self.inside.order; graph = c.self.inside.graph.graph; stopped = c.self.inside.stopped.items }
 
 abbrev after : Else-is_err → Collected
-after c = record { node = c.self.inside.node; order = c.offer.new.self; graph = c.self.inside.graph; stopped = c.self.inside.stopped.items }
+after c = record { node = c.self.inside.node; order = c.offer.new.self; graph = c.self.inside.graph.graph; stopped = c.self.inside.stopped.items }
 
 keeps : (c : Else-is_err) → Keeps (before c) (after c) c.args.origin c.args.number c.args.b
 keeps c = record {
@@ -26,7 +27,12 @@ keeps c = record {
 pub invariant_of-self-2 : goal.invariant_of-self-2
 invariant_of-self-2 c =
     let fit = subst (λ d. IsFit (node_count d) c.args.origin c.args.b) (sym c.self.view_is) c.requires.fits in
-    (c.self.invariant.0 ∙ sym (keeps c).order.nodes, keeps-kept (before c) (after c) c.args.origin c.args.number c.args.b (keeps c) fit c.self.invariant.1)
+    record {
+      nodes = c.self.invariant.nodes ∙ sym (keeps c).order.nodes;
+      kept = keeps-kept (before c) (after c) c.args.origin c.args.number c.args.b (keeps c) fit c.self.invariant.kept;
+      left = c.self.invariant.left;
+      gone = gone-same (before c) (after c) c.self.inside.gone.items (λ a. refl) (λ a. refl) c.self.invariant.gone;
+    }
 
 pub returns-clause-ok : goal.returns-clause-ok
 returns-clause-ok c = rw (← c.self.view_is) (keeps c)

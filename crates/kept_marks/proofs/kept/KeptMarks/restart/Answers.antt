@@ -27,3 +27,7 @@ returns-clause-watched g c =
     let added = subst (λ n. (a : ℕ) → a < n → has_place c.put_all.new.set a ≡ true) c.place_count-places.ensures.count c.put_all.ensures.added in
     subst (λ k. KeepsWatch k (kept_of s' c.put_all.new.set c.self.inside.queued c.self.inside.fallen)) c.self.view_is
     (watch-restart graph s s' c.self.inside.touched c.put_all.new.set c.self.inside.queued c.self.inside.fallen marked c.put_all.ensures.kept added)
+
+pub returns-clause-all : goal.returns-clause-all
+returns-clause-all g c =
+    subst (λ n. (a : ℕ) → a < n → has_place c.put_all.new.set a ≡ true) c.place_count-places.ensures.count c.put_all.ensures.added

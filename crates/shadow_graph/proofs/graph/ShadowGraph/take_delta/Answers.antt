@@ -38,5 +38,6 @@ returns-in-Ok-clause-ok c =
       rows = record { shadows = adds.shadows; given = adds.given; released = adds.released };
       log = c.in-Ok.ensures.noted;
       names = c.in-Ok.ensures.named;
+      more = c.in-Ok.ensures.more;
       cut = c.raise.ensures;
     })

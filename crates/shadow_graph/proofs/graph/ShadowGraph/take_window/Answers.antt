@@ -39,6 +39,7 @@ returns-in-Ok-clause-ok c =
       rows = record { shadows = by.shadows; given = by.given; released = by.released };
       log = c.in-Ok.ensures.noted;
       names = c.in-Ok.ensures.named;
+      more = c.in-Ok.ensures.more;
       cut = c.raise.ensures;
     })
 
@@ -54,5 +55,6 @@ returns-in-Ok-clause-ok_final c =
       rows = record { shadows = by.shadows; given = by.given; released = by.released };
       log = c.in-Ok.ensures.noted_final;
       names = c.in-Ok.ensures.named;
+      more = c.in-Ok.ensures.more;
       cut = c.raise.ensures;
     })

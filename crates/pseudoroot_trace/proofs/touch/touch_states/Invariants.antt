@@ -1,0 +1,9 @@
+use Rattle.std.proofs.Common.{take}
+use Rattle.history_model.specs.declared.records.StateRow.{StateRow}
+use Rattle.pseudoroot_trace.specs.Traced.{TouchesMore}
+use Rattle.pseudoroot_trace.proofs.TouchLemmas.{AllLooked}
+use Rattle.pseudoroot_trace.proofs.touch.touch_states.Given as goal
+
+abbrev pub invariant-loop-row : goal.invariant-loop-row
+invariant-loop-row l =
+    TouchesMore l.places l.initial.kept l.kept × AllLooked (λ (r : StateRow). r.actor) l.graph l.places l.kept (take l.row-index l.rows)
