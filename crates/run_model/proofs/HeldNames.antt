@@ -4,7 +4,7 @@ use Rattle.std.proofs.lemmas.Bool.{and_parts, eqb-true, false≢true, false_from
 use Rattle.std.specs.Prelude.{codes}
 use Rattle.crgc_ids.specs.Actor.{Actor, same_actor}
 use Rattle.history_model.specs.declared.events.Event.{Event}
-use Rattle.history_model.specs.declared.events.Event.TheVariants.{Seed, Tie, Wake, Take, Spawn, Send, Drop, Retire}
+use Rattle.history_model.specs.declared.events.Event.TheVariants.{Seed, Tie, Wake, Take, Spawn, Send, Drop, Retire, Rest}
 use Rattle.history_model.specs.Tally.{tally}
 use Rattle.history_model.specs.Cluster.{Cluster, births, is_born, newborn}
 use Rattle.history_model.specs.Messages.{Message, mail, taken, takes, waiting}
@@ -303,4 +303,8 @@ holds-next s (Retire b) p legal due all a born =
     let a_due = subst (λ x. (let d = doing s x p in due_act d.turn ≡ Some acts.Retire)) equal due in
     subst (λ x. HoldsNames (cluster_of s) a now.turn (Retire x ∷ p)) (sym equal) (retires s p a (doing s a p) a_due (all a born)))
     (λ other. others s p a (Retire b) (doing s a p) (λ t. refl) (λ t. refl) (λ r. rw other r) (all a born))
+holds-next s (Rest b) p legal due all a born =
+    pick (same_actor b a) (Held s p a (Rest b)) (acts_on None (doing s a p)) (doing s a p)
+    (λ same. acts_alone s p a (Rest b) (doing s a p) (λ t. refl) (λ t. refl) (λ r. r) (all a born))
+    (λ other. others s p a (Rest b) (doing s a p) (λ t. refl) (λ t. refl) (λ r. r) (all a born))
 holds-next s e p legal due all a born = others s p a e (doing s a p) (λ t. refl) (λ t. refl) (λ r. r) (all a born)

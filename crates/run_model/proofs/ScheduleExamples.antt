@@ -16,7 +16,7 @@ use Rattle.fault_plan.specs.Rows.{link_row}
 use Rattle.run_model.specs.Doing.{cluster_of}
 use Rattle.run_model.specs.Round.{round}
 use Rattle.run_model.specs.Schedule.{IsDone, IsFixed, schedule}
-use Rattle.run_model.proofs.Scripts.{breeder, crash, maker_friend_poke, quitters, small_workload}
+use Rattle.run_model.proofs.Scripts.{breeder, crash, keepers, maker_friend_poke, quitters, small_workload}
 
 -- Messages, a crash that comes with the end of a turn, and a message of the crashed node.
 
@@ -96,6 +96,17 @@ quitters-fixed : IsFixed quitters (onto [] (
     Sweep 0 ∷ Sweep 1 ∷ []
     ))
 quitters-fixed = (2, refl, refl)
+
+-- A name that is kept at the very end of a turn is there in the next one: the second `keep` drops what the first one bound.
+
+keepers-fixed : IsFixed keepers (onto [] (
+    Seed 0 ∷ Seed 0 ∷ Tie (actor 0 0) (actor 0 1) ∷
+    Wake (actor 0 0) ∷ Send (actor 0 0) (actor 0 1) (actor 0 1 ∷ []) ∷ Rest (actor 0 0) ∷ Take (actor 0 1) ∷ Rest (actor 0 1) ∷
+    Wake (actor 0 0) ∷ Send (actor 0 0) (actor 0 1) (actor 0 1 ∷ []) ∷ Rest (actor 0 0) ∷
+    Take (actor 0 1) ∷ Drop (actor 0 1) (actor 0 1) ∷ Rest (actor 0 1) ∷
+    Flush (actor 0 0) ∷ Flush (actor 0 1) ∷ Publish 0 ∷ Hand 0 0 0 ∷ Sweep 0 ∷ []
+    ))
+keepers-fixed = (4, refl, refl)
 
 -- A generated workload: how many actors were born and stopped on each node.
 

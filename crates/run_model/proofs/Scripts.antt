@@ -104,3 +104,16 @@ quitters = record {
   plan = record { losses = []; repeats = []; crashes = [] };
   turns = 10;
 }
+
+-- one actor sends the other a reference to itself, twice; the other keeps each under the same name
+abbrev pub keepers : Scripted
+keepers = record {
+  nodes = 1;
+  code =
+      behaviour (codes "giver") (Send (named (codes "b")) (named (codes "b") ∷ []) ∷ []) []
+      ∷ behaviour (codes "keeper") [] (Keep (codes "k") 0 ∷ []) ∷ [];
+  seeds = seed 0 0 2 ∷ seed 0 1 0 ∷ [];
+  ties = tie 0 1 (codes "b") ∷ [];
+  plan = record { losses = []; repeats = []; crashes = [] };
+  turns = 10;
+}

@@ -111,7 +111,7 @@ abbrev pub first_refs : List Message → List Actor
 first_refs [] = []
 first_refs (m ∷ ms) = m.refs
 
--- the act that was due is done, with that child
+-- the act that was due is done, with that child. Where none was due, the turn comes to its end: a last `keep` binds its name
 abbrev pub acts_on : Option Actor → Doing → Doing
 acts_on child d = record { behaviour = d.behaviour; turn = after_act child d.turn }
 
@@ -133,9 +133,9 @@ doing s a (Spawn b ∷ p) =
 doing s a (Send b t refs ∷ p) = elim (same_actor b a) as (λ _. Doing) [ true ↦ acts_on None (doing s a p) | false ↦ doing s a p ]
 doing s a (Drop b t ∷ p) = elim (same_actor b a) as (λ _. Doing) [ true ↦ acts_on None (doing s a p) | false ↦ doing s a p ]
 doing s a (Retire b ∷ p) = elim (same_actor b a) as (λ _. Doing) [ true ↦ acts_on None (doing s a p) | false ↦ doing s a p ]
+doing s a (Rest b ∷ p) = elim (same_actor b a) as (λ _. Doing) [ true ↦ acts_on None (doing s a p) | false ↦ doing s a p ]
 doing s a (Seed n ∷ p) = doing s a p
 doing s a (Tie b t ∷ p) = doing s a p
-doing s a (Rest b ∷ p) = doing s a p
 doing s a (Flush b ∷ p) = doing s a p
 doing s a (Publish n ∷ p) = doing s a p
 doing s a (Window d f ∷ p) = doing s a p
