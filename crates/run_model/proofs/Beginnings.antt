@@ -33,11 +33,11 @@ start-ties : (s : Scripted) (ties : List TieRow) (h : List Event) → IsStart h 
 start-ties s [] h start = start
 start-ties s (t ∷ ties) h start = start-ties s ties (tie_of s t ∷ h) start
 
-beginning-start : (s : Scripted) → IsStart (beginning s)
+pub beginning-start : (s : Scripted) → IsStart (beginning s)
 beginning-start s = start-ties s s.ties _ (start-seeds s.seeds [] tt)
 
 -- nobody has done anything
-start-doing : (s : Scripted) (a : Actor) (h : List Event) → IsStart h → doing s a h ≡ as_seed s a
+pub start-doing : (s : Scripted) (a : Actor) (h : List Event) → IsStart h → doing s a h ≡ as_seed s a
 start-doing s a [] start = refl
 start-doing s a (Seed n ∷ p) start = start-doing s a p start
 start-doing s a (Tie b c ∷ p) start = start-doing s a p start
