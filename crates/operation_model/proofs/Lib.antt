@@ -1,0 +1,6 @@
+pub mod Grows
+pub mod Reached
+pub mod Frames
+pub mod Keeping
+pub mod Claims
+mod CourseExamples

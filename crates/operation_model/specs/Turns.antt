@@ -57,6 +57,12 @@ turn_left code b = left (instrs_of code b.behaviour b.list) (names_at_start b.re
 abbrev pub turn_of : List Behaviour → Open → List Act × Names
 turn_of code t = visible (whole (turn_left code t.begun) t.children)
 
+-- with more children the turn begins with the acts that it has without them
+abbrev pub Grows : Left → List Actor → List Actor → Type 0
+Grows l children more =
+    (later : List Act)
+    × (let longer = visible (whole l (children ++ more)) in let o = visible (whole l children) in longer.0 ≡ o.0 ++ later)
+
 -- the act is the next one of the actor's turn
 abbrev pub IsNextAct : List Behaviour → Actor → Act → Open → Type 0
 IsNextAct code a act t =
