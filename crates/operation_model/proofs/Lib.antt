@@ -3,4 +3,6 @@ pub mod Reached
 pub mod Frames
 pub mod Keeping
 pub mod Claims
+pub mod Kept
+pub mod Granted
 mod CourseExamples
