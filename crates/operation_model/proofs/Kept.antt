@@ -33,13 +33,16 @@ hands_of h = record {
   given_since = λ p n. given_since n (calls_of p h);
 }
 
--- the world is a run in which no crash is due; and the calls have told of turns, names, behaviours, claims and hands what is so
--- in the world
-pub record IsKept (o : Opening) (h : Calls) : Type 0 where
-  pub run : IsRun o.script (world o h)
-  pub none_due : crash_due o.script (world o h) ≡ None
-  pub keeps : Keeps o.script (world o h) (open_turns h) (names_at o h) (behaviour_at o h)
-  pub hands : KeepsHands (world o h) (claim_at o h) (hands_of h)
+-- the world is a run in which no crash is due; and what the calls tell of turns, names, behaviours, claims and hands is so in
+-- the world
+pub record IsKeptIn (s : Scripted) (w : List Event) (turns : ℕ → Option Open) (names : Actor → Names) (behaviours : Actor → ℕ) (claims : ℕ → Option ℕ) (x : Hands) : Type 0 where
+  pub run : IsRun s w
+  pub none_due : crash_due s w ≡ None
+  pub keeps : Keeps s w turns names behaviours
+  pub hands : KeepsHands w claims x
+
+abbrev pub IsKept : Opening → Calls → Type 0
+IsKept o h = IsKeptIn o.script (world o h) (open_turns h) (names_at o h) (behaviour_at o h) (claim_at o h) (hands_of h)
 
 -- an operation may begin with the event
 abbrev pub Goes : Scripted → Event → List Event → Type 0

@@ -5,4 +5,5 @@ pub mod Keeping
 pub mod Claims
 pub mod Kept
 pub mod Granted
+pub mod CourseLaws
 mod CourseExamples
