@@ -10,20 +10,8 @@ use Rattle.history_model.proofs.Basics.{eqb-refl}
 use Rattle.run_model.specs.Follows.{handed_since}
 use Rattle.operation_model.specs.Courses.{claim_after}
 use Rattle.operation_model.specs.Deeds.{Deed, claimed, handed, swept}
+use Rattle.operation_model.specs.Kept.{Hands, KeepsHands}
 use Rattle.operation_model.specs.Hands.{given_by, given_since_by, is_claim_of}
-
--- of each pass: whether it has claimed a node; the bytes that it was given for it; and whether it was given any since it swept
-pub record Hands : Type 0 where
-  pub has_claimed : ℕ → ℕ → Bool
-  pub given : ℕ → ℕ → ℕ → ℕ → Option (List ℕ)
-  pub given_since : ℕ → ℕ → Bool
-
--- a pass that claimed a node is the one that has claimed it; what was handed to a node was given to that pass; and where it was
--- given something since its last sweep, something was handed there since the node's last sweep
-pub record KeepsHands (w : List Event) (claims : ℕ → Option ℕ) (x : Hands) : Type 0 where
-  pub claimed_by : (p n : ℕ) → x.has_claimed p n ≡ true → claims n ≡ Some p
-  pub handed_by : (n o k : ℕ) → was_handed n o k w ≡ true → (p : ℕ) × (claims n ≡ Some p) × ((bytes : List ℕ) × (x.given p n o k ≡ Some bytes))
-  pub since : (p n : ℕ) → x.has_claimed p n ≡ true → x.given_since p n ≡ true → handed_since n w ≡ true
 
 -- the deed of a pass changes what that pass has done, and nothing of the others
 pub record ChangesHands (p : ℕ) (d : Deed) (x y : Hands) : Type 0 where

@@ -35,13 +35,14 @@ use Rattle.operation_model.specs.Answers.{act_reply, IsAnswer, IsCourse, IsGrant
 use Rattle.operation_model.specs.Courses.{behaviour_at, claim_at, event_by, events_by, halt_after, halt_at, names_at, with_added, world}
 use Rattle.operation_model.specs.Deeds.{Deed, deed_of, nothing}
 use Rattle.operation_model.specs.Fits.{Fits}
+use Rattle.operation_model.specs.Kept.{Hands, IsKept, IsKeptIn, Keeps, KeepsHands, hands_of, names_of, open_turns}
 use Rattle.operation_model.specs.Openings.{IsNew, Opening}
 use Rattle.operation_model.specs.Turns.{Calls, Open}
-use Rattle.operation_model.proofs.Claims.{Hands, HandsNothing, KeepsHands, hands-event}
+use Rattle.operation_model.proofs.Claims.{HandsNothing, hands-event}
 use Rattle.operation_model.proofs.Frames.{is_still, still}
 use Rattle.operation_model.proofs.Granted.{granted}
-use Rattle.operation_model.proofs.Keeping.{Keeps, keeps-same, keeps-still, names_of}
-use Rattle.operation_model.proofs.Kept.{IsKept, IsKeptIn, IsStep, LeavesHands, LeavesTurns, hands_of, leaves-hands, leaves-turns, open_turns, same-hands, same-turns}
+use Rattle.operation_model.proofs.Keeping.{keeps-same, keeps-still}
+use Rattle.operation_model.proofs.Kept.{IsStep, LeavesHands, LeavesTurns, leaves-hands, leaves-turns, same-hands, same-turns}
 
 -- ---- what does nothing
 

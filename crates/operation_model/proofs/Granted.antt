@@ -38,12 +38,13 @@ use Rattle.operation_model.specs.Courses.{behaviour_after, behaviour_at, claim_a
 use Rattle.operation_model.specs.Deeds.{Begun, Deed, acted, deed_of, rested, took, turn_reply, woke}
 use Rattle.operation_model.specs.Fits.{Fits}
 use Rattle.operation_model.specs.Hands.{given, given_since, has_claimed}
+use Rattle.operation_model.specs.Kept.{IsKept, Keeps, KeepsHands, hands_of, names_of, open_turns}
 use Rattle.operation_model.specs.Openings.{Opening}
 use Rattle.operation_model.specs.Turns.{Calls, IfOpen, IsNextAct, IsWholeTurn, Open, fresh, grown, turn_after, turn_left, with_act}
-use Rattle.operation_model.proofs.Claims.{HandsNothing, KeepsHands, hands-claimed, hands-handed, hands-swept}
+use Rattle.operation_model.proofs.Claims.{HandsNothing, hands-claimed, hands-handed, hands-swept}
 use Rattle.operation_model.proofs.Frames.{IsBeginning, IsStill, child_of, is_still, still, take-begins, wake-begins}
-use Rattle.operation_model.proofs.Keeping.{ChangesTurn, Keeps, keeps-acted, keeps-begun, keeps-rested, keeps-same, keeps-still, names_of, turner, turner-busy, turner-reached}
-use Rattle.operation_model.proofs.Kept.{Goes, IsKept, IsStep, LeavesHands, changes-hands, changes-turn, changes_hands, changes_turns, hands-left, hands_of, leaves-hands, leaves-turns, open_turns, same-hands, same-turns}
+use Rattle.operation_model.proofs.Keeping.{ChangesTurn, keeps-acted, keeps-begun, keeps-rested, keeps-same, keeps-still, turner-busy, turner-reached}
+use Rattle.operation_model.proofs.Kept.{Goes, IsStep, LeavesHands, changes-hands, changes-turn, changes_hands, changes_turns, hands-left, leaves-hands, leaves-turns, same-hands, same-turns}
 use Rattle.operation_model.proofs.Reached.{act-due, names-left, none-due}
 
 -- ---- tests

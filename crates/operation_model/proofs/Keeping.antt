@@ -21,28 +21,8 @@ use Rattle.operation_model.specs.Courses.{behaviour_after, names_after}
 use Rattle.operation_model.specs.Deeds.{Begun, acted, rested}
 use Rattle.operation_model.specs.Turns.{Open, fresh, turn_left, with_act}
 use Rattle.operation_model.proofs.Frames.{IsBeginning, IsNoChild, IsStill, act-busy, act-doing, act-others, child-doing, child_of, rest-busy, rest-doing, rest-others}
-use Rattle.operation_model.proofs.Reached.{HasChild, IsReached, reached-next, reached-start}
-
--- the actor of an open turn
-abbrev pub turner : Open → Actor
-turner t = (let b = t.begun in b.actor)
-
--- the names of what an actor does
-abbrev pub names_of : Doing → Names
-names_of d = (let l = d.turn in l.names)
-
--- the turn is the actor's in the world: it is busy, and its turn has come so far
-pub record IsRunning (s : Scripted) (w : List Event) (t : Open) : Type 0 where
-  pub busy : is_busy (turner t) w ≡ true
-  pub reached : (let d = doing s (turner t) w in IsReached (turn_left s.code t.begun) t.acts t.children d.turn)
-
--- each open turn runs in the world, and no two passes have one actor's; the names of who is in no turn, and all behaviours, are
--- those of the world
-pub record Keeps (s : Scripted) (w : List Event) (turns : ℕ → Option Open) (names : Actor → Names) (behaviours : Actor → ℕ) : Type 0 where
-  pub running : (p : ℕ) (t : Open) → turns p ≡ Some t → IsRunning s w t
-  pub apart : (p q : ℕ) (t u : Open) → turns p ≡ Some t → turns q ≡ Some u → turner t ≡ turner u → p ≡ q
-  pub names_are : (a : Actor) → is_born a w ≡ true → is_busy a w ≡ false → names a ≡ names_of (doing s a w)
-  pub behaviours_are : (a : Actor) → is_born a w ≡ true → (let d = doing s a w in behaviours a ≡ d.behaviour)
+use Rattle.operation_model.specs.Kept.{IsReached, IsRunning, Keeps, names_of, turner}
+use Rattle.operation_model.proofs.Reached.{HasChild, reached-next, reached-start}
 
 -- only that pass's turn changes
 pub record ChangesTurn (p : ℕ) (turns later : ℕ → Option Open) (now : Option Open) : Type 0 where

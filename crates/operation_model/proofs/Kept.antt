@@ -16,33 +16,12 @@ use Rattle.operation_model.specs.declared.replies.Reply.{Reply}
 use Rattle.operation_model.specs.Courses.{behaviour_after, behaviour_at, claim_after, claim_at, event_by, names_after, names_at, world}
 use Rattle.operation_model.specs.Deeds.{Deed, acted, claimed, deed_of, handed, rested, swept, took, woke}
 use Rattle.operation_model.specs.Hands.{given, given_by, given_since, given_since_by, has_claimed, is_claim_of}
+use Rattle.operation_model.specs.Kept.{Hands, IsKept, IsKeptIn, Keeps, KeepsHands, hands_of, open_turns}
 use Rattle.operation_model.specs.Openings.{Opening}
 use Rattle.operation_model.specs.Turns.{Calls, Open, open_turn, turn_after}
-use Rattle.operation_model.proofs.Claims.{ChangesHands, Hands, HandsNothing, KeepsHands, hands-event, hands-same}
+use Rattle.operation_model.proofs.Claims.{ChangesHands, HandsNothing, hands-event, hands-same}
 use Rattle.operation_model.proofs.Frames.{IsStill}
-use Rattle.operation_model.proofs.Keeping.{ChangesTurn, Keeps, keeps-same, keeps-still}
-
--- of each pass the turn that it has open, and what it has done as the collector of nodes
-abbrev pub open_turns : Calls → ℕ → Option Open
-open_turns h = λ p. open_turn (calls_of p h)
-
-abbrev pub hands_of : Calls → Hands
-hands_of h = record {
-  has_claimed = λ p n. has_claimed n (calls_of p h);
-  given = λ p n o k. given n o k (calls_of p h);
-  given_since = λ p n. given_since n (calls_of p h);
-}
-
--- the world is a run in which no crash is due; and what the calls tell of turns, names, behaviours, claims and hands is so in
--- the world
-pub record IsKeptIn (s : Scripted) (w : List Event) (turns : ℕ → Option Open) (names : Actor → Names) (behaviours : Actor → ℕ) (claims : ℕ → Option ℕ) (x : Hands) : Type 0 where
-  pub run : IsRun s w
-  pub none_due : crash_due s w ≡ None
-  pub keeps : Keeps s w turns names behaviours
-  pub hands : KeepsHands w claims x
-
-abbrev pub IsKept : Opening → Calls → Type 0
-IsKept o h = IsKeptIn o.script (world o h) (open_turns h) (names_at o h) (behaviour_at o h) (claim_at o h) (hands_of h)
+use Rattle.operation_model.proofs.Keeping.{ChangesTurn, keeps-same, keeps-still}
 
 -- an operation may begin with the event
 abbrev pub Goes : Scripted → Event → List Event → Type 0

@@ -6,4 +6,5 @@ pub mod Claims
 pub mod Kept
 pub mod Granted
 pub mod CourseLaws
+pub mod StillFits
 mod CourseExamples

@@ -6,16 +6,8 @@ use Rattle.behaviour_lang.specs.Bound.{Names}
 use Rattle.behaviour_lang.specs.Steps.{Left, act_by_act, after_act, due_act, visible, whole}
 use Rattle.behaviour_lang.specs.declared.act.Act.{Act}
 use Rattle.behaviour_lang.specs.declared.act.Act.TheVariants as acts
+use Rattle.operation_model.specs.Kept.{IsReached, after_acts}
 use Rattle.behaviour_lang.proofs.ActLaws.{turn_is_its_due_act}
-
--- these acts, and then what an outcome has
-abbrev pub after_acts : List Act → List Act × Names → List Act × Names
-after_acts done o = (done ++ o.0, o.1)
-
--- after these acts, with these children, the turn l has come to `now`: whatever children are born later
-abbrev pub IsReached : Left → List Act → List Actor → Left → Type 0
-IsReached l done children now =
-    (more : List Actor) → visible (whole l (children ++ more)) ≡ after_acts done (visible (whole now more))
 
 -- a spawn has a child, and no other act has one
 abbrev pub HasChild : Act → Option Actor → Type 0

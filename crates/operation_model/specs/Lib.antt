@@ -5,3 +5,4 @@ pub mod Courses
 pub mod Hands
 pub mod Fits
 pub mod Answers
+pub mod Kept

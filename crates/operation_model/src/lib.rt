@@ -2,6 +2,7 @@
 //! law of what they make together. The state that carries them out stands in a crate above.
 #![tactic(auto)]
 
+pub mod laws;
 mod operations;
 mod replies;
 

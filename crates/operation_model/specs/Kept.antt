@@ -1,0 +1,90 @@
+-- What is so at each call of a course: the calls tell of turns, names, behaviours, claims and hands what is so in the world.
+use Rattle.std.specs.Prelude.{ℕ, ◌≡◌, Bool, true, false, List, ◌++◌, Option, Some, None}
+use Rattle.crgc_ids.specs.Actor.{Actor}
+use Rattle.turn_lock.specs.History.{calls_of}
+use Rattle.history_model.specs.declared.events.Event.{Event}
+use Rattle.history_model.specs.Cluster.{is_born}
+use Rattle.history_model.specs.Folds.{was_handed}
+use Rattle.history_model.specs.State.{is_busy}
+use Rattle.behaviour_lang.specs.Bound.{Names}
+use Rattle.behaviour_lang.specs.Steps.{Left, visible, whole}
+use Rattle.behaviour_lang.specs.declared.act.Act.{Act}
+use Rattle.script_reader.specs.Valid.{Scripted}
+use Rattle.run_model.specs.Doing.{Doing, doing}
+use Rattle.run_model.specs.Follows.{IsRun, handed_since}
+use Rattle.run_model.specs.Planned.{crash_due}
+use Rattle.operation_model.specs.Courses.{behaviour_at, claim_at, names_at, world}
+use Rattle.operation_model.specs.Hands.{given, given_since, has_claimed}
+use Rattle.operation_model.specs.Openings.{Opening}
+use Rattle.operation_model.specs.Turns.{Calls, Open, open_turn, turn_left}
+
+-- ---- turns
+
+-- these acts, and then what an outcome has
+abbrev pub after_acts : List Act → List Act × Names → List Act × Names
+after_acts done o = (done ++ o.0, o.1)
+
+-- after these acts, with these children, the turn l has come to `now`: whatever children are born later
+abbrev pub IsReached : Left → List Act → List Actor → Left → Type 0
+IsReached l done children now =
+    (more : List Actor) → visible (whole l (children ++ more)) ≡ after_acts done (visible (whole now more))
+
+-- the actor of an open turn
+abbrev pub turner : Open → Actor
+turner t = (let b = t.begun in b.actor)
+
+-- the names of what an actor does
+abbrev pub names_of : Doing → Names
+names_of d = (let l = d.turn in l.names)
+
+-- the turn is the actor's in the world: it is busy, and its turn has come so far
+pub record IsRunning (s : Scripted) (w : List Event) (t : Open) : Type 0 where
+  pub busy : is_busy (turner t) w ≡ true
+  pub reached : (let d = doing s (turner t) w in IsReached (turn_left s.code t.begun) t.acts t.children d.turn)
+
+-- each open turn runs in the world, and no two passes have one actor's; the names of who is in no turn, and all behaviours, are
+-- those of the world
+pub record Keeps (s : Scripted) (w : List Event) (turns : ℕ → Option Open) (names : Actor → Names) (behaviours : Actor → ℕ) : Type 0 where
+  pub running : (p : ℕ) (t : Open) → turns p ≡ Some t → IsRunning s w t
+  pub apart : (p q : ℕ) (t u : Open) → turns p ≡ Some t → turns q ≡ Some u → turner t ≡ turner u → p ≡ q
+  pub names_are : (a : Actor) → is_born a w ≡ true → is_busy a w ≡ false → names a ≡ names_of (doing s a w)
+  pub behaviours_are : (a : Actor) → is_born a w ≡ true → (let d = doing s a w in behaviours a ≡ d.behaviour)
+
+-- ---- claims and hands
+
+-- of each pass: whether it has claimed a node; the bytes that it was given for it; and whether it was given any since it swept
+pub record Hands : Type 0 where
+  pub has_claimed : ℕ → ℕ → Bool
+  pub given : ℕ → ℕ → ℕ → ℕ → Option (List ℕ)
+  pub given_since : ℕ → ℕ → Bool
+
+-- a pass that claimed a node is the one that has claimed it; what was handed to a node was given to that pass; and where it was
+-- given something since its last sweep, something was handed there since the node's last sweep
+pub record KeepsHands (w : List Event) (claims : ℕ → Option ℕ) (x : Hands) : Type 0 where
+  pub claimed_by : (p n : ℕ) → x.has_claimed p n ≡ true → claims n ≡ Some p
+  pub handed_by : (n o k : ℕ) → was_handed n o k w ≡ true → (p : ℕ) × (claims n ≡ Some p) × ((bytes : List ℕ) × (x.given p n o k ≡ Some bytes))
+  pub since : (p n : ℕ) → x.has_claimed p n ≡ true → x.given_since p n ≡ true → handed_since n w ≡ true
+
+-- ---- all of it
+
+-- of each pass the turn that it has open, and what it has done as the collector of nodes
+abbrev pub open_turns : Calls → ℕ → Option Open
+open_turns h = λ p. open_turn (calls_of p h)
+
+abbrev pub hands_of : Calls → Hands
+hands_of h = record {
+  has_claimed = λ p n. has_claimed n (calls_of p h);
+  given = λ p n o k. given n o k (calls_of p h);
+  given_since = λ p n. given_since n (calls_of p h);
+}
+
+-- the world is a run in which no crash is due; and what the calls tell of turns, names, behaviours, claims and hands is so in
+-- the world
+pub record IsKeptIn (s : Scripted) (w : List Event) (turns : ℕ → Option Open) (names : Actor → Names) (behaviours : Actor → ℕ) (claims : ℕ → Option ℕ) (x : Hands) : Type 0 where
+  pub run : IsRun s w
+  pub none_due : crash_due s w ≡ None
+  pub keeps : Keeps s w turns names behaviours
+  pub hands : KeepsHands w claims x
+
+abbrev pub IsKept : Opening → Calls → Type 0
+IsKept o h = IsKeptIn o.script (world o h) (open_turns h) (names_at o h) (behaviour_at o h) (claim_at o h) (hands_of h)

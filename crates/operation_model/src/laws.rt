@@ -1,0 +1,48 @@
+//! The laws of the operations. Each function does nothing, and its contract is the law.
+ghost use Rattle.std.specs.Prelude.{◌≡◌, ◌++◌, ℕ, true, List, [], Some, None};
+ghost use Rattle.crgc_ids.specs.Actor.{Actor};
+ghost use Rattle.crgc_ids.specs.declared.Which.{Which};
+ghost use Rattle.turn_lock.specs.History.{calls_of};
+ghost use Rattle.history_model.specs.Legal.{IsLegal};
+ghost use Rattle.behaviour_lang.specs.Steps.{Left};
+ghost use Rattle.run_model.specs.Doing.{cluster_of, is_in_ranges};
+ghost use Rattle.run_model.specs.Follows.{CouldPass, IsRun};
+ghost use Rattle.run_model.specs.Planned.{crash_due};
+ghost use Rattle.operation_model.specs.Answers.{IsCourse};
+ghost use Rattle.operation_model.specs.Courses.{halt_at, world};
+ghost use Rattle.operation_model.specs.Fits.{Fits};
+ghost use Rattle.operation_model.specs.Kept.{IsKept};
+ghost use Rattle.operation_model.specs.Openings.{IsNew, Opening};
+ghost use Rattle.operation_model.specs.Turns.{Calls, Grows};
+ghost use Rattle.operation_model.specs.declared.operations.Op.{Op};
+ghost use Rattle.operation_model.specs.declared.replies.Halt.TheVariants.{Limit};
+
+/// With more children a turn begins with the acts that it has without them. So the acts of a turn that a pass has open stay the
+/// beginning of the whole turn while its children are born.
+pub fn a_turn_grows_with_its_children()
+    ensures { (l : Left) (children more : List Actor) → Grows l children more }
+{}
+
+/// What fits still fits after further calls of other passes, whatever the lock was made with.
+pub fn what_fits_still_fits()
+    ensures { (o : Opening) (later history : Calls) (op : Op) (pass : ℕ) → calls_of pass later ≡ []
+        → Fits o history op pass → Fits o (later ++ history) op pass }
+{}
+
+/// In a lock that was made with the cluster of a script, the world's history after each course of calls is a run of the script,
+/// in which no crash is due; so it is legal. The calls of each pass tell what is so in the world: its open turn is its actor's, no
+/// two passes have one actor's, names and behaviours are the actors', and who has claimed a node knows what was handed there.
+pub fn a_course_is_a_run()
+    ensures run { (o : Opening) (h : Calls) → is_in_ranges o.script ≡ true → IsNew o → IsCourse o h → IsRun o.script (world o h) }
+    ensures none_due { (o : Opening) (h : Calls) → is_in_ranges o.script ≡ true → IsNew o → IsCourse o h
+        → crash_due o.script (world o h) ≡ None }
+    ensures legal { (o : Opening) (h : Calls) → is_in_ranges o.script ≡ true → IsNew o → IsCourse o h
+        → IsLegal (cluster_of o.script) (world o h) }
+    ensures kept { (o : Opening) (h : Calls) → is_in_ranges o.script ≡ true → IsNew o → IsCourse o h → IsKept o h }
+{}
+
+/// Where it has halted at a limit, the run could pass that limit next.
+pub fn a_halt_at_a_limit_is_due()
+    ensures { (o : Opening) (h : Calls) (w : Which) → is_in_ranges o.script ≡ true → IsNew o → IsCourse o h
+        → halt_at o h ≡ Some (Limit w) → CouldPass o.script (world o h) w }
+{}
