@@ -6,5 +6,6 @@ pub mod Claims
 pub mod Kept
 pub mod Granted
 pub mod CourseLaws
+pub mod Over
 pub mod StillFits
 mod CourseExamples

@@ -1,6 +1,6 @@
 -- What a course of calls makes of a cluster: its world, the behaviours and names of its actors, its claims, and whether it halts.
-use Rattle.std.specs.Prelude.{ℕ, ◌==◌, if◌then◌else◌, List, [], ◌∷◌, Option, Some, None, option_map, option_to_list}
-use Rattle.std.specs.List.{find}
+use Rattle.std.specs.Prelude.{ℕ, Bool, true, false, ◌==◌, if◌then◌else◌, List, [], ◌∷◌, Option, Some, None, option_map, option_to_list}
+use Rattle.std.specs.List.{find, list_any}
 use Rattle.crgc_ids.specs.Actor.{Actor, same_actor}
 use Rattle.crgc_ids.specs.Nodes.{nodes_below}
 use Rattle.history_model.specs.declared.events.Event.{Event}
@@ -88,6 +88,16 @@ behaviour_after d a before = before
 abbrev pub behaviour_at : Opening → Calls → Actor → ℕ
 behaviour_at o [] a = o.behaviours a
 behaviour_at o (e ∷ earlier) a = behaviour_after (deed_of e.op e.reply) a (behaviour_at o earlier a)
+
+-- ---- the end
+
+-- at one of the calls nothing was left to do
+abbrev pub is_end : Deed → Bool
+is_end was_over = true
+is_end d = false
+
+abbrev pub was_all_done : Calls → Bool
+was_all_done h = list_any (λ e. is_end (deed_of e.op e.reply)) h
 
 -- ---- claims, and the halt
 
