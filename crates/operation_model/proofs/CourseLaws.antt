@@ -211,18 +211,19 @@ module _ (o : Opening) (new : IsNew o) where
 
     module _ (h : Calls) (k : IsKept o h) (p : ℕ) (op : Op) (fit : Fits o h op p) where
       -- an answer is a refusal, which does nothing, or is granted
-      by_answer : (r : Reply) (G : Type 0) → (deed_of op r ≡ nothing → halt_after r None ≡ None → G) → (IsStep o (entry p op r ∷ h) (world o h) (event_by S (deed_of op r) (world o h)) → IsGranted o h op (world o h) r → G)
+      pub by_answer : (r : Reply) (G : Type 0) → (deed_of op r ≡ nothing → halt_after r None ≡ None → G)
+          → (refused S (claim_at o h) op (world o h) ≡ None → IsGranted o h op (world o h) r → IsStep o (entry p op r ∷ h) (world o h) (event_by S (deed_of op r) (world o h)) → G)
           → (v : Option Reply) → refused S (claim_at o h) op (world o h) ≡ v → Unless v r (IsGranted o h op (world o h) r) → G
       by_answer r G quiet done (Some x) is answer =
           let refused_so = refused-quiet S (claim_at o h) op (world o h) x is in
           quiet (ap (deed_of op) answer ∙ refused_so.0) (ap (λ y. halt_after y None) answer ∙ refused_so.1)
-      by_answer r G quiet done None is answer = done (granted o h k (kept-sound h k) p op r fit is answer) answer
+      by_answer r G quiet done None is answer = done is answer (granted o h k (kept-sound h k) p op r fit is answer)
 
       kept-made : (r : Reply) → IsAnswer o h op r → MayFollow S (events_by S (deed_of op r) (world o h)) (world o h) → IsKept o (entry p op r ∷ h)
       kept-made r answer follow =
           by_answer r (IsKept o (entry p op r ∷ h))
           (λ quiet _. kept-nothing o h p op r quiet k)
-          (λ step _. kept-step o h (entry p op r ∷ h) (event_by S (deed_of op r) (world o h)) k step follow)
+          (λ _ _ step. kept-step o h (entry p op r ∷ h) (event_by S (deed_of op r) (world o h)) k step follow)
           (refused S (claim_at o h) op (world o h)) refl answer
 
       kept-halted : (r : Reply) (why : Halt) → r ≡ replies.Halted why → IsKept o (entry p op r ∷ h)
@@ -259,7 +260,7 @@ module _ (o : Opening) (new : IsNew o) where
       could-pass limit would =
           by_answer would.0 (CouldPass S (world o h) limit)
           (λ quiet _. absurd (subst (λ d. PassesLimit S limit (events_by S d (world o h)) (world o h)) quiet would.2))
-          (λ step _. could would.0 limit (event_by S (deed_of op would.0) (world o h)) step would.2)
+          (λ _ _ step. could would.0 limit (event_by S (deed_of op would.0) (world o h)) step would.2)
           (refused S (claim_at o h) op (world o h)) refl would.1
 
     -- at each call of a course this is kept
@@ -310,7 +311,7 @@ module _ (o : Opening) (new : IsNew o) where
         answered none (inl made) =
             by_answer h k e.pass e.op course.0 e.reply (CouldPass S (world o (e ∷ h)) limit)
             (λ _ on. absurd (none-some (Limit limit) (sym on ∙ ap (halt_after e.reply) (sym none) ∙ halted)))
-            (λ _ done. absurd (none-some (Limit limit) (sym (goes_on h e.op (world o h) e.reply done) ∙ ap (halt_after e.reply) (sym none) ∙ halted)))
+            (λ _ done _. absurd (none-some (Limit limit) (sym (goes_on h e.op (world o h) e.reply done) ∙ ap (halt_after e.reply) (sym none) ∙ halted)))
             (refused S (claim_at o h) e.op (world o h)) refl made.0
         answered none (inr (inl at)) =
             let same : at.0 ≡ limit = limit-same at.0 (why-is None (Limit at.0) none at.1) in

@@ -74,7 +74,7 @@ abbrev pub NoneHolds : List Refusal → Type 0
 NoneHolds [] = Unit {0}
 NoneHolds (c ∷ cs) = (c.holds ≡ false) × NoneHolds cs
 
-none-holds : (cs : List Refusal) → first_refusal cs ≡ None → NoneHolds cs
+pub none-holds : (cs : List Refusal) → first_refusal cs ≡ None → NoneHolds cs
 none-holds [] e = tt
 none-holds (c ∷ cs) e =
     elim c.holds as (λ v. c.holds ≡ v → (if v then Some c.reply else first_refusal cs) ≡ None → NoneHolds (c ∷ cs)) [

@@ -7,5 +7,6 @@ pub mod Kept
 pub mod Granted
 pub mod CourseLaws
 pub mod Over
+pub mod OverCourses
 pub mod StillFits
 mod CourseExamples

@@ -6,10 +6,10 @@ ghost use Rattle.turn_lock.specs.History.{calls_of};
 ghost use Rattle.history_model.specs.Legal.{IsLegal};
 ghost use Rattle.behaviour_lang.specs.Steps.{Left};
 ghost use Rattle.run_model.specs.Doing.{cluster_of, is_in_ranges};
-ghost use Rattle.run_model.specs.Follows.{CouldPass, IsRun};
+ghost use Rattle.run_model.specs.Follows.{CouldPass, IsRun, is_over};
 ghost use Rattle.run_model.specs.Planned.{crash_due};
 ghost use Rattle.operation_model.specs.Answers.{IsCourse};
-ghost use Rattle.operation_model.specs.Courses.{halt_at, world};
+ghost use Rattle.operation_model.specs.Courses.{halt_at, was_all_done, world};
 ghost use Rattle.operation_model.specs.Fits.{Fits};
 ghost use Rattle.operation_model.specs.Kept.{IsKept};
 ghost use Rattle.operation_model.specs.Openings.{IsNew, Opening};
@@ -39,6 +39,12 @@ pub fn a_course_is_a_run()
     ensures legal { (o : Opening) (h : Calls) → is_in_ranges o.script ≡ true → IsNew o → IsCourse o h
         → IsLegal (cluster_of o.script) (world o h) }
     ensures kept { (o : Opening) (h : Calls) → is_in_ranges o.script ≡ true → IsNew o → IsCourse o h → IsKept o h }
+{}
+
+/// Once a call was answered that nothing is left to do, the run is over, and stays so whatever calls follow.
+pub fn a_course_stays_over()
+    ensures { (o : Opening) (h : Calls) → is_in_ranges o.script ≡ true → IsNew o → IsCourse o h
+        → was_all_done h ≡ true → is_over o.script (world o h) ≡ true }
 {}
 
 /// Where it has halted at a limit, the run could pass that limit next.
