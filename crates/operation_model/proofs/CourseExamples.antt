@@ -1,25 +1,22 @@
 -- What calls make of a cluster, computed on a course of two passes: two seeds on two nodes are each woken once, with nothing to do.
-use Rattle.std.specs.Prelude.{◌≡◌, ℕ, true, false, codes, List, [], ◌∷◌, ◌++◌, refl, Some, None}
+use Rattle.std.specs.Prelude.{◌≡◌, ℕ, true, codes, List, [], ◌∷◌, refl, Some, None}
 use Rattle.std.proofs.Common.{inl, inr}
 use Rattle.crgc_ids.specs.Actor.{Actor}
-use Rattle.history_model.specs.declared.events.Event.{Event}
 use Rattle.history_model.specs.declared.events.Event.TheVariants as events
 use Rattle.history_model.specs.Rows.{actor, onto}
 use Rattle.turn_lock.specs.History.{entry}
-use Rattle.turn_lock.specs.declared.object.Entry.{Entry}
 use Rattle.behaviour_lang.specs.declared.act.List.TheVariants as lists
-use Rattle.behaviour_lang.specs.declared.code.Behaviour.{Behaviour}
 use Rattle.script_reader.specs.Valid.{Scripted}
 use Rattle.script_reader.specs.declared.script.Seed.{Seed as SeedRow}
-use Rattle.run_model.specs.Doing.{as_seed, beginning, first_names}
+use Rattle.run_model.specs.Doing.{beginning, first_names}
 use Rattle.operation_model.specs.declared.operations.Op.{Op}
 use Rattle.operation_model.specs.declared.operations.Op.TheVariants as ops
-use Rattle.operation_model.specs.declared.replies.Halt.TheVariants.{Limit, Memory}
+use Rattle.operation_model.specs.declared.replies.Halt.TheVariants.{Memory}
 use Rattle.operation_model.specs.declared.replies.Reply.{Reply}
 use Rattle.operation_model.specs.declared.replies.Reply.TheVariants as replies
 use Rattle.operation_model.specs.declared.replies.Why.TheVariants.{Busy, NoMail}
-use Rattle.operation_model.specs.Answers.{IsBegun, IsCourse, refused}
-use Rattle.operation_model.specs.Courses.{claim_at, halt_at, names_at, world}
+use Rattle.operation_model.specs.Answers.{IsCourse, refused}
+use Rattle.operation_model.specs.Courses.{claim_at, world}
 use Rattle.operation_model.specs.Deeds.{Begun, turn_reply}
 use Rattle.operation_model.specs.Openings.{Opening}
 use Rattle.operation_model.specs.Turns.{Calls}
@@ -91,10 +88,18 @@ both_woken-course = (
 
 both_rest-course : IsCourse (opening 10) both_rest
 both_rest-course = (
-  (refl, refl, refl), inl (refl, (refl, refl, tt)), (
-    (refl, refl, refl), inl (refl, (refl, refl, tt)), (
-      tt, inl (refl, tt), (
-        tt, inl (refl, tt), both_woken-course,
+  (refl, refl, refl),
+  inl (refl, (refl, refl, tt)),
+  (
+    (refl, refl, refl),
+    inl (refl, (refl, refl, tt)),
+    (
+      tt,
+      inl (refl, tt),
+      (
+        tt,
+        inl (refl, tt),
+        both_woken-course,
       ),
     ),
   ),
@@ -102,15 +107,33 @@ both_rest-course = (
 
 all_done-course : IsCourse (opening 10) all_done
 all_done-course = (
-  tt, inl (refl, tt), (
-    tt, inl (refl, tt), (
-      tt, inl (refl, tt), (
-        tt, inl (refl, tt), (
-          tt, inl (refl, tt), (
-            tt, inl (refl, (refl, refl, tt)), (
-              tt, inl (refl, tt), (
-                tt, inl (refl, (refl, refl, tt)), (
-                  tt, inl (refl, tt), both_rest-course,
+  tt,
+  inl (refl, tt),
+  (
+    tt,
+    inl (refl, tt),
+    (
+      tt,
+      inl (refl, tt),
+      (
+        tt,
+        inl (refl, tt),
+        (
+          tt,
+          inl (refl, tt),
+          (
+            tt,
+            inl (refl, (refl, refl, tt)),
+            (
+              tt,
+              inl (refl, tt),
+              (
+                tt,
+                inl (refl, (refl, refl, tt)),
+                (
+                  tt,
+                  inl (refl, tt),
+                  both_rest-course,
                 ),
               ),
             ),

@@ -1,11 +1,10 @@
 -- What each event leaves as it is: what other actors do, who is busy, and who is born.
-use Rattle.std.proofs.Common.{◌≡◌, ℕ, Bool, true, false, List, [], ◌∷◌, Option, Some, None, refl, sym, ◌∙◌, ap}
+use Rattle.std.proofs.Common.{◌≡◌, ℕ, Bool, true, false, List, [], ◌∷◌, Option, Some, None, refl, sym, ◌∙◌}
 use Rattle.std.proofs.lemmas.Bool.{false≢true}
 use Rattle.crgc_ids.specs.Actor.{Actor, same_actor}
 use Rattle.history_model.specs.declared.events.Event.{Event}
-use Rattle.history_model.specs.declared.events.Event.TheVariants.{Seed, Tie, Wake, Take, Spawn, Send, Drop, Retire, Rest, Flush, Publish, Window, Admit, Lose, Repeat, Crash, Remove, Hand, Sweep}
-use Rattle.history_model.specs.Cluster.{births, is_born, newborn}
-use Rattle.history_model.specs.Folds.{was_handed}
+use Rattle.history_model.specs.declared.events.Event.TheVariants.{Wake, Take, Spawn, Rest, Flush, Publish, Window, Admit, Lose, Repeat, Crash, Remove, Hand, Sweep}
+use Rattle.history_model.specs.Cluster.{is_born, newborn}
 use Rattle.history_model.specs.Messages.{waiting}
 use Rattle.history_model.specs.State.{is_busy, is_root}
 use Rattle.history_model.proofs.Basics.{same_actor-refl}
@@ -14,7 +13,6 @@ use Rattle.behaviour_lang.specs.declared.act.Act.TheVariants as acts
 use Rattle.behaviour_lang.specs.declared.act.List.TheVariants as lists
 use Rattle.script_reader.specs.Valid.{Scripted}
 use Rattle.run_model.specs.Doing.{Doing, acts_on, as_child, begins, doing, event_of, first_refs}
-use Rattle.run_model.specs.Follows.{handed_since}
 use Rattle.run_model.proofs.TurnsDone.{picked}
 
 -- by a test that fails

@@ -1,8 +1,8 @@
 -- A turn with more children begins with the acts that it has without them.
-use Rattle.std.proofs.Common.{◌≡◌, ℕ, Bool, true, false, List, [], ◌∷◌, ◌++◌, append-nil, append_assoc, Option, Some, None, refl, sym, ◌∙◌, ap}
+use Rattle.std.proofs.Common.{◌≡◌, Bool, true, false, List, [], ◌∷◌, ◌++◌, append-nil, Option, Some, None, refl, sym, ◌∙◌, ap}
 use Rattle.crgc_ids.specs.Actor.{Actor}
 use Rattle.behaviour_lang.specs.Bound.{Names, bind, bound, without}
-use Rattle.behaviour_lang.specs.Steps.{Left, visible, whole}
+use Rattle.behaviour_lang.specs.Steps.{Left}
 use Rattle.behaviour_lang.specs.Turn.{Outcome, acts_of, at_end, bound_all, drop_for_keep, drop_of, first_act, kept, send_of, turn}
 use Rattle.behaviour_lang.specs.declared.act.Act.{Act}
 use Rattle.behaviour_lang.specs.declared.act.Act.TheVariants as acts

@@ -1,6 +1,6 @@
 -- What each event keeps of the turns that passes have open, and of the names and behaviours of actors. All of it is said of plain
 -- functions: of each pass its open turn, of each actor its names and its behaviour.
-use Rattle.std.proofs.Common.{◌≡◌, ◌==◌, ℕ, Bool, true, false, List, [], ◌∷◌, ◌++◌, Option, Some, None, option_to_list, refl, sym, ◌∙◌, ap, subst, if◌then◌else◌}
+use Rattle.std.proofs.Common.{◌≡◌, ◌==◌, ℕ, true, false, List, [], ◌∷◌, ◌++◌, Option, Some, None, option_to_list, refl, sym, ◌∙◌, ap, subst, if◌then◌else◌}
 use Rattle.std.proofs.lemmas.Bool.{eqb-true, false≢true, false_from_ne_true}
 use Rattle.std.proofs.lemmas.Option.{none-some, same_Some}
 use Rattle.crgc_ids.specs.Actor.{Actor, same_actor}
@@ -11,7 +11,7 @@ use Rattle.history_model.specs.State.{is_busy}
 use Rattle.history_model.proofs.AccountsBirths.{newborn-not_born}
 use Rattle.history_model.proofs.Basics.{eqb-refl, same_actor-equal, same_actor-refl}
 use Rattle.behaviour_lang.specs.Bound.{Names, local_names}
-use Rattle.behaviour_lang.specs.Steps.{Left, after_act, due_act}
+use Rattle.behaviour_lang.specs.Steps.{after_act, due_act}
 use Rattle.behaviour_lang.specs.declared.act.Act.{Act}
 use Rattle.behaviour_lang.specs.declared.act.Act.TheVariants as acts
 use Rattle.script_reader.specs.Valid.{Scripted}
@@ -75,8 +75,8 @@ module _ (s : Scripted) (w : List Event) (turns later : ℕ → Option Open) (na
     begun-own began t is =
         let same : fresh b ≡ t = same_Some (fresh b) t (sym changes.own ∙ is) in
         let reached : (let d = doing s b.actor (e ∷ w) in IsReached (turn_left s.code b) [] [] d.turn) =
-            subst (λ (d : Doing). IsReached (turn_left s.code b) [] [] d.turn) (sym begins.doing_is)
-            (subst (IsReached (turn_left s.code b) [] []) (sym began.0) (reached-start (turn_left s.code b))) in
+        subst (λ (d : Doing). IsReached (turn_left s.code b) [] [] d.turn) (sym begins.doing_is)
+        (subst (IsReached (turn_left s.code b) [] []) (sym began.0) (reached-start (turn_left s.code b))) in
         let runs : IsRunning s (e ∷ w) (fresh b) = record { busy = begins.busy; reached = reached } in
         subst (IsRunning s (e ∷ w)) same runs
 
@@ -177,9 +177,9 @@ module _ (s : Scripted) (w : List Event) (turns later : ℕ → Option Open) (na
           let same : now ≡ x = same_Some now x (sym changes.own ∙ is) in
           let d = doing s a w in
           let after : IsReached (turn_left s.code t.begun) (t.acts ++ act ∷ []) (t.children ++ option_to_list (child_of a act w)) (after_act (child_of a act w) d.turn) =
-              reached-next (turn_left s.code t.begun) d.turn t.acts t.children turner-reached act (child_of a act w) (has-child act) due in
+          reached-next (turn_left s.code t.begun) d.turn t.acts t.children turner-reached act (child_of a act w) (has-child act) due in
           let at_actor : (let f = doing s a (Acted ∷ w) in IsReached (turn_left s.code t.begun) now.acts now.children f.turn) =
-              subst (λ (f : Doing). IsReached (turn_left s.code t.begun) now.acts now.children f.turn) (sym (act-doing s a w act)) after in
+          subst (λ (f : Doing). IsReached (turn_left s.code t.begun) now.acts now.children f.turn) (sym (act-doing s a w act)) after in
           let running : IsRunning s (Acted ∷ w) now = record {
             busy = act-busy s a w act (turner t) ∙ runs.busy;
             reached = subst (λ y. (let f = doing s y (Acted ∷ w) in IsReached (turn_left s.code t.begun) now.acts now.children f.turn)) (sym actor) at_actor;

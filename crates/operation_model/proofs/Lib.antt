@@ -3,6 +3,7 @@ pub mod Reached
 pub mod Frames
 pub mod Keeping
 pub mod Claims
+pub mod Verdicts
 pub mod Kept
 pub mod Granted
 pub mod CourseLaws

@@ -1,19 +1,15 @@
 -- Where nothing was left to do, nothing is left from then on: the run stays over.
-use Rattle.std.proofs.Common.{◌≡◌, ◌==◌, ◌&&◌, ◌||◌, ◌++◌, ◌⊎◌, ◌<◌, ◌≤◌, ℕ, Bool, true, false, not, nat_lt, List, [], ◌∷◌, option_to_list, Option, Some, None, refl, sym, ◌∙◌, ap, subst, arith, if◌then◌else◌, is_none, inl, inr, IsTrue, IsFalse}
-use Rattle.std.specs.List.{list_any, sum_by}
-use Rattle.std.specs.Option.{is_some}
-use Rattle.std.proofs.lemmas.Bool.{and_parts, eqb-true, false≢true, false_from_ne_true, ltb-true}
+use Rattle.std.proofs.Common.{◌≡◌, ◌==◌, ◌&&◌, ◌||◌, ◌⊎◌, ◌<◌, ℕ, Bool, true, false, not, nat_lt, List, [], ◌∷◌, option_to_list, Some, None, refl, sym, ◌∙◌, ap, subst, arith, if◌then◌else◌, is_none, inl, inr}
+use Rattle.std.proofs.lemmas.Bool.{and_parts, eqb-true, false≢true, ltb-true}
 use Rattle.std.proofs.lemmas.Bool.Decides.{Decides-eqb}
-use Rattle.std.proofs.lemmas.Option.{none-some}
 use Rattle.crgc_ids.specs.Actor.{Actor, same_actor}
 use Rattle.crgc_ids.specs.Members.{IsAmong}
 use Rattle.history_model.specs.declared.events.Event.{Event}
 use Rattle.history_model.specs.declared.events.Event.TheVariants as events
-use Rattle.history_model.specs.Cluster.{Cluster, newborn}
-use Rattle.history_model.specs.Legal.{IsLegal, checks, refusal}
+use Rattle.history_model.specs.Cluster.{newborn}
+use Rattle.history_model.specs.Legal.{IsLegal, checks}
 use Rattle.history_model.specs.Live.{NobodyIsBusy, NothingIsLive, busy_count, live_count}
-use Rattle.history_model.specs.Messages.{Message, waiting}
-use Rattle.history_model.specs.Quiescent.{IsLive}
+use Rattle.history_model.specs.Messages.{waiting}
 use Rattle.history_model.specs.Rows.{onto}
 use Rattle.history_model.specs.State.{is_busy, is_root, is_up}
 use Rattle.history_model.specs.Uses.{sent_by}
@@ -25,12 +21,12 @@ use Rattle.history_model.proofs.States.{legal-send, some_waits, waiting-live}
 use Rattle.script_reader.specs.Valid.{Scripted}
 use Rattle.script_reader.specs.declared.script.Seed.{Seed as SeedRow}
 use Rattle.run_model.specs.Doing.{cluster_of, row_of, seed_actors, seeded}
-use Rattle.run_model.specs.Follows.{added, fits, is_allowed, is_on_time, is_over, queued}
-use Rattle.run_model.specs.Planned.{begun, crash_due, is_possible, is_within_budget, planned, wakes_left, wakes_of}
+use Rattle.run_model.specs.Follows.{added, is_allowed, is_on_time, is_over, queued}
+use Rattle.run_model.specs.Planned.{begun, crash_due, is_within_budget, planned, wakes_left, wakes_of}
 use Rattle.run_model.specs.declared.round_laws.TheConstants.{FLUSHES_PER_PUBLISH}
 use Rattle.run_model.proofs.Runs.{allowed-fits}
 use Rattle.operation_model.specs.Answers.{MayFollow}
-use Rattle.operation_model.proofs.Frames.{IsStill, is_still, still}
+use Rattle.operation_model.proofs.Frames.{is_still, still}
 
 -- ---- what it means
 
@@ -103,12 +99,12 @@ calm-over s e w legal c over =
       spent = elim over.spent [
         | inl spent ↦ inl (ap (λ n. nat_lt n s.turns) c.same_begun ∙ spent)
         | inr nothing_left ↦ inr (
-            λ m live. elim (live-next (cluster_of s) e w legal m live) [
-              | inl before ↦ nothing_left.0 m before
-              | inr sent ↦ absurd (subst (IsAmong m) c.sends_nothing sent)
-            ],
-            c.same_planned ∙ nothing_left.1,
-          )
+          λ m live. elim (live-next (cluster_of s) e w legal m live) [
+            | inl before ↦ nothing_left.0 m before
+            | inr sent ↦ absurd (subst (IsAmong m) c.sends_nothing sent)
+          ],
+          c.same_planned ∙ nothing_left.1,
+        )
       ];
     }
 

@@ -1,5 +1,5 @@
 -- Once nothing was left to do at a call of a course, the run is over.
-use Rattle.std.proofs.Common.{◌≡◌, ◌==◌, ◌&&◌, ◌||◌, ℕ, Bool, true, false, not, List, [], ◌∷◌, Option, Some, None, refl, sym, ◌∙◌, ap, subst, inl, inr, is_none}
+use Rattle.std.proofs.Common.{◌≡◌, ◌==◌, ◌&&◌, ◌||◌, ℕ, Bool, true, false, not, List, [], ◌∷◌, Option, Some, None, refl, sym, ◌∙◌, ap, subst, inl, inr}
 use Rattle.std.proofs.lemmas.Bool.{false≢true}
 use Rattle.turn_lock.specs.History.{entry}
 use Rattle.history_model.specs.declared.events.Event.{Event}
@@ -8,7 +8,7 @@ use Rattle.history_model.specs.Rows.{onto}
 use Rattle.behaviour_lang.specs.declared.act.Act.{Act}
 use Rattle.behaviour_lang.specs.declared.act.Act.TheVariants as acts
 use Rattle.script_reader.specs.Valid.{Scripted}
-use Rattle.run_model.specs.Doing.{cluster_of, is_in_ranges}
+use Rattle.run_model.specs.Doing.{cluster_of}
 use Rattle.run_model.specs.Follows.{is_over}
 use Rattle.run_model.specs.Planned.{crash_due, is_within_budget, planned}
 use Rattle.operation_model.specs.declared.operations.Op.{Op}
@@ -16,7 +16,6 @@ use Rattle.operation_model.specs.declared.operations.Op.TheVariants as ops
 use Rattle.operation_model.specs.declared.replies.Halt.{Halt}
 use Rattle.operation_model.specs.declared.replies.Halt.TheVariants.{Limit, Memory}
 use Rattle.operation_model.specs.declared.replies.Reply.{Reply}
-use Rattle.operation_model.specs.declared.replies.Reply.TheVariants as replies
 use Rattle.operation_model.specs.Answers.{IsCourse, IsGranted, IsReply, MayAnswer, MayFollow, act_reply, is_unfinished, refusals, refused}
 use Rattle.operation_model.specs.Courses.{claim_at, event_by, halt_at, is_end, was_all_done, with_added, world}
 use Rattle.operation_model.specs.Deeds.{deed_of, nothing}
@@ -66,14 +65,14 @@ finished-over s w none not_unfinished =
     by_tests true true true false e = absurd (false≢true (sym e))
     by_tests true true true true e = refl
 
-module _ (o : Opening) (new : IsNew o) (fits : is_in_ranges o.script ≡ true) where
+module _ (o : Opening) (new : IsNew o) where
   abbrev S : Scripted
   S = o.script
 
   -- it stays so
   step-over : (h later : Calls) (k : IsKept o h) (v : Option Event) → IsStep o later (world o h) v → MayFollow S (with_added S v (world o h)) (world o h) → is_over S (world o h) ≡ true → is_over S (onto (world o h) (with_added S v (world o h))) ≡ true
   step-over h later k None step follow over = over
-  step-over h later k (Some e) step follow over = stays-over S e (world o h) (kept-sound o new fits h k).0 k.none_due over (step follow.0).0.0 follow
+  step-over h later k (Some e) step follow over = stays-over S e (world o h) (kept-sound o new h k).0 k.none_due over (step follow.0).0.0 follow
 
   module _ (h : Calls) (k : IsKept o h) (earlier : was_all_done h ≡ true → is_over S (world o h) ≡ true) (p : ℕ) (op : Op) (r : Reply) (fit : Fits o h op p) (was : (is_end (deed_of op r) || was_all_done h) ≡ true) where
     -- what does nothing leaves it so
@@ -92,7 +91,7 @@ module _ (o : Opening) (new : IsNew o) (fits : is_in_ranges o.script ≡ true) w
 
     over-answered : MayAnswer o h op r → is_over S (world o (entry p op r ∷ h)) ≡ true
     over-answered (inl made) =
-        by_answer o new fits h k p op fit r (is_over S (world o (entry p op r ∷ h)) ≡ true)
+        by_answer o new h k p op fit r (is_over S (world o (entry p op r ∷ h)) ≡ true)
         (λ quiet _. over-nothing quiet)
         (λ not_refused done step. step-over h (entry p op r ∷ h) k (event_by S (deed_of op r) (world o h)) step made.1 (over-before done not_refused))
         (refused S (claim_at o h) op (world o h)) refl made.0
@@ -106,4 +105,4 @@ module _ (o : Opening) (new : IsNew o) (fits : is_in_ranges o.script ≡ true) w
   pub over-course : (h : Calls) → IsCourse o h → was_all_done h ≡ true → is_over S (world o h) ≡ true
   over-course [] course was = absurd (false≢true was)
   over-course (e ∷ h) course was =
-      over-reply h (kept-course o new fits h course.2) (over-course h course.2) e.pass e.op e.reply course.0 was (halt_at o h) course.1
+      over-reply h (kept-course o new h course.2) (over-course h course.2) e.pass e.op e.reply course.0 was (halt_at o h) course.1

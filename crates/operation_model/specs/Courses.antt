@@ -1,11 +1,12 @@
 -- What a course of calls makes of a cluster: its world, the behaviours and names of its actors, its claims, and whether it halts.
-use Rattle.std.specs.Prelude.{ℕ, Bool, true, false, ◌==◌, if◌then◌else◌, List, [], ◌∷◌, Option, Some, None, option_map, option_to_list}
+use Rattle.std.specs.Prelude.{ℕ, Bool, true, false, ◌==◌, ◌++◌, if◌then◌else◌, List, [], ◌∷◌, Option, Some, None, option_map, option_to_list}
 use Rattle.std.specs.List.{find, list_any}
 use Rattle.crgc_ids.specs.Actor.{Actor, same_actor}
 use Rattle.crgc_ids.specs.Nodes.{nodes_below}
 use Rattle.history_model.specs.declared.events.Event.{Event}
 use Rattle.history_model.specs.declared.events.Event.TheVariants as events
 use Rattle.history_model.specs.Rows.{onto}
+use Rattle.history_model.specs.declared.records.Verdict.{Verdict}
 use Rattle.behaviour_lang.specs.Bound.{Names, local_names}
 use Rattle.script_reader.specs.Valid.{Scripted}
 use Rattle.run_model.specs.Doing.{event_of, own_name, spawned}
@@ -118,3 +119,14 @@ halt_after r before = before
 abbrev pub halt_at : Opening → Calls → Option Halt
 halt_at o [] = o.halt
 halt_at o (e ∷ earlier) = halt_after e.reply (halt_at o earlier)
+
+-- ---- verdicts
+
+-- the verdicts of the sweeps, the last one first
+abbrev pub verdict_of : Deed → List Verdict
+verdict_of (swept v) = v ∷ []
+verdict_of d = []
+
+abbrev pub verdicts : Calls → List Verdict
+verdicts [] = []
+verdicts (e ∷ earlier) = verdict_of (deed_of e.op e.reply) ++ verdicts earlier

@@ -1,14 +1,15 @@
 -- What a pass that has claimed a node was given for its collector, and the verdict that follows from it.
 use Rattle.std.specs.Prelude.{ℕ, ◌≡◌, ◌==◌, ◌&&◌, ◌||◌, Bool, false, if◌then◌else◌, List, [], ◌∷◌, length, slice_get, Option, Some, None}
 use Rattle.std.specs.List.{list_any}
-use Rattle.std.specs.Option.{is_some}
 use Rattle.crgc_ids.specs.Actor.{Actor, same_actor}
+use Rattle.history_model.specs.declared.events.Event.{Event}
 use Rattle.history_model.specs.declared.records.Bulletin.{Bulletin}
 use Rattle.history_model.specs.declared.records.Stop.{Stop}
 use Rattle.history_model.specs.declared.records.Verdict.{Verdict}
 use Rattle.history_model.specs.Cluster.{Cluster}
-use Rattle.history_model.specs.Compaction.{IsCompactedVerdict, nobody}
-use Rattle.history_model.specs.Folds.{Fold, run_of}
+use Rattle.history_model.specs.Compaction.{IsCompactedVerdict, IsFoldOf, nobody}
+use Rattle.history_model.specs.Folds.{Fold}
+use Rattle.history_model.specs.Legal.{IsLegal}
 use Rattle.history_model.specs.Streams.{Notice}
 use Rattle.history_model.specs.Tells.{Tells}
 use Rattle.wire_grammar.specs.Spelling.{spelled}
@@ -43,20 +44,15 @@ abbrev pub given_since : ℕ → Calls → Bool
 given_since n [] = false
 given_since n (e ∷ earlier) = given_since_by n (deed_of e.op e.reply) (given_since n earlier)
 
--- how many bulletins of the origin can be folded: the longest run of numbers from 0 that were given. It is no longer than there
--- are calls
-abbrev pub given_run : ℕ → ℕ → Calls → ℕ
-given_run n o calls = run_of (λ k. is_some (given n o k calls)) (length calls)
-
 -- the bytes spell the origin's bulletin that tells the notice
 abbrev pub Spells : ℕ → List ℕ → Notice → Type 0
 Spells o bytes m = (b : Bulletin) × (bytes ≡ spelled b) × Tells o b m
 
--- the fold is what the pass was given for node n, as far as it can be folded
+-- the fold is what the pass was given for node n, as far as it can be folded: of each origin the longest run of numbers from 0
 pub record IsGivenFold (n : ℕ) (calls : Calls) (f : Fold) : Type 0 where
-  pub long : (o : ℕ) → length (f o) ≡ given_run n o calls
-  pub spelled : (o k : ℕ) (m : Notice) → slice_get (f o) k ≡ Some m
+  pub told : (o k : ℕ) (m : Notice) → slice_get (f o) k ≡ Some m
       → (bytes : List ℕ) × (given n o k calls ≡ Some bytes) × Spells o bytes m
+  pub ends : (o : ℕ) → given n o (length (f o)) calls ≡ None
 
 -- whether a sweep of the pass has stopped the actor
 abbrev pub is_stop_of : Actor → Stop → Bool
@@ -69,7 +65,9 @@ stops_actor a d = false
 abbrev pub own_stopped : Calls → Actor → Bool
 own_stopped calls a = list_any (λ e. stops_actor a (deed_of e.op e.reply)) calls
 
--- the verdict is the sweep of what the pass was given for its node, less whom the pass has stopped there
+-- the verdict is the sweep of what the pass was given for its node, less whom the pass has stopped there: that of each fold of a
+-- legal history which is what it was given
 abbrev pub IsOwnVerdict : Cluster → Calls → Verdict → Type 0
 IsOwnVerdict cl calls v =
-    (f : Fold) × IsGivenFold v.node calls f × IsCompactedVerdict cl v.node nobody (own_stopped calls) f v
+    (h : List Event) (f : Fold) → IsLegal cl h → IsFoldOf cl h f → IsGivenFold v.node calls f
+    → IsCompactedVerdict cl v.node nobody (own_stopped calls) f v

@@ -5,7 +5,7 @@ use Rattle.history_model.specs.declared.events.Event.{Event}
 use Rattle.history_model.specs.Cluster.{is_born}
 use Rattle.behaviour_lang.specs.Bound.{Names}
 use Rattle.script_reader.specs.Valid.{Scripted}
-use Rattle.run_model.specs.Doing.{beginning, behaviour_of, first_names, row_of}
+use Rattle.run_model.specs.Doing.{beginning, behaviour_of, first_names, is_in_ranges, row_of}
 use Rattle.operation_model.specs.declared.replies.Halt.{Halt}
 
 -- a cluster as a lock is made with it: its script; its history; the behaviour and the names of each actor; which pass has
@@ -18,9 +18,10 @@ pub record Opening : Type 0 where
   pub claims : ℕ → Option ℕ
   pub halt : Option Halt
 
--- the cluster that a script makes: of each seed it has the behaviour of its row and the names of its ties; no node is claimed,
+-- the cluster that a script makes, which stays in its ranges: of each seed it has the behaviour of its row and the names of its ties; no node is claimed,
 -- and it has not halted
 pub record IsNew (o : Opening) : Type 0 where
+  pub ranges : is_in_ranges o.script ≡ true
   pub past : o.past ≡ beginning o.script
   pub behaviours : (a : Actor) → is_born a o.past ≡ true → o.behaviours a ≡ (let s = o.script in behaviour_of (row_of s.seeds [] a))
   pub names : (a : Actor) → is_born a o.past ≡ true → o.names a ≡ first_names o.script a

@@ -4,12 +4,13 @@ ghost use Rattle.crgc_ids.specs.Actor.{Actor};
 ghost use Rattle.crgc_ids.specs.declared.Which.{Which};
 ghost use Rattle.turn_lock.specs.History.{calls_of};
 ghost use Rattle.history_model.specs.Legal.{IsLegal};
+ghost use Rattle.journal_model.specs.Verdicts.{AreVerdicts};
 ghost use Rattle.behaviour_lang.specs.Steps.{Left};
-ghost use Rattle.run_model.specs.Doing.{cluster_of, is_in_ranges};
+ghost use Rattle.run_model.specs.Doing.{cluster_of};
 ghost use Rattle.run_model.specs.Follows.{CouldPass, IsRun, is_over};
 ghost use Rattle.run_model.specs.Planned.{crash_due};
 ghost use Rattle.operation_model.specs.Answers.{IsCourse};
-ghost use Rattle.operation_model.specs.Courses.{halt_at, was_all_done, world};
+ghost use Rattle.operation_model.specs.Courses.{halt_at, verdicts, was_all_done, world};
 ghost use Rattle.operation_model.specs.Fits.{Fits};
 ghost use Rattle.operation_model.specs.Kept.{IsKept};
 ghost use Rattle.operation_model.specs.Openings.{IsNew, Opening};
@@ -31,24 +32,27 @@ pub fn what_fits_still_fits()
 
 /// In a lock that was made with the cluster of a script, the world's history after each course of calls is a run of the script,
 /// in which no crash is due; so it is legal. The calls of each pass tell what is so in the world: its open turn is its actor's, no
-/// two passes have one actor's, names and behaviours are the actors', and who has claimed a node knows what was handed there.
+/// two passes have one actor's, names and behaviours are the actors', and who has claimed a node knows what was handed there and
+/// who was stopped; so the verdicts of the sweeps are those of the world.
 pub fn a_course_is_a_run()
-    ensures run { (o : Opening) (h : Calls) → is_in_ranges o.script ≡ true → IsNew o → IsCourse o h → IsRun o.script (world o h) }
-    ensures none_due { (o : Opening) (h : Calls) → is_in_ranges o.script ≡ true → IsNew o → IsCourse o h
+    ensures run { (o : Opening) (h : Calls) → IsNew o → IsCourse o h → IsRun o.script (world o h) }
+    ensures none_due { (o : Opening) (h : Calls) → IsNew o → IsCourse o h
         → crash_due o.script (world o h) ≡ None }
-    ensures legal { (o : Opening) (h : Calls) → is_in_ranges o.script ≡ true → IsNew o → IsCourse o h
+    ensures legal { (o : Opening) (h : Calls) → IsNew o → IsCourse o h
         → IsLegal (cluster_of o.script) (world o h) }
-    ensures kept { (o : Opening) (h : Calls) → is_in_ranges o.script ≡ true → IsNew o → IsCourse o h → IsKept o h }
+    ensures verdicts { (o : Opening) (h : Calls) → IsNew o → IsCourse o h
+        → AreVerdicts (cluster_of o.script) (world o h) (verdicts h) }
+    ensures kept { (o : Opening) (h : Calls) → IsNew o → IsCourse o h → IsKept o h }
 {}
 
 /// Once a call was answered that nothing is left to do, the run is over, and stays so whatever calls follow.
 pub fn a_course_stays_over()
-    ensures { (o : Opening) (h : Calls) → is_in_ranges o.script ≡ true → IsNew o → IsCourse o h
+    ensures { (o : Opening) (h : Calls) → IsNew o → IsCourse o h
         → was_all_done h ≡ true → is_over o.script (world o h) ≡ true }
 {}
 
 /// Where it has halted at a limit, the run could pass that limit next.
 pub fn a_halt_at_a_limit_is_due()
-    ensures { (o : Opening) (h : Calls) (w : Which) → is_in_ranges o.script ≡ true → IsNew o → IsCourse o h
+    ensures { (o : Opening) (h : Calls) (w : Which) → IsNew o → IsCourse o h
         → halt_at o h ≡ Some (Limit w) → CouldPass o.script (world o h) w }
 {}
