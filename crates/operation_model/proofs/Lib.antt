@@ -5,6 +5,7 @@ pub mod Keeping
 pub mod Claims
 pub mod Verdicts
 pub mod Kept
+pub mod GrantedTurns
 pub mod Granted
 pub mod CourseLaws
 pub mod Over
