@@ -200,7 +200,7 @@ module _ (o : Opening) (new : IsNew o) where
   starts : IsStart o.past
   starts = subst IsStart (sym new.past) (beginning-start S)
 
-  kept-start : IsKept o []
+  pub kept-start : IsKept o []
   kept-start = record {
     run = ([], new.past, refl);
     none_due = start-none_due S o.past starts;

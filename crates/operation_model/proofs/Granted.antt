@@ -1,53 +1,40 @@
 -- Whatever is granted in a run of a new cluster keeps what is kept, and its first event is allowed.
-use Rattle.std.proofs.Common.{◌≡◌, ◌==◌, ◌&&◌, ◌++◌, ℕ, Bool, true, false, not, nat_lt, List, [], ◌∷◌, option_map, slice_get, Option, Some, None, refl, sym, ◌∙◌, ap, subst, if◌then◌else◌, ◌⊎◌, inl, inr}
-use Rattle.std.specs.List.{find}
-use Rattle.std.specs.Option.{is_some}
-use Rattle.std.proofs.lemmas.Bool.{and_parts, false≢true, false_from_ne_true}
+use Rattle.std.proofs.Common.{◌≡◌, ◌&&◌, ◌++◌, ℕ, true, false, nat_lt, List, [], ◌∷◌, option_map, slice_get, Option, Some, None, refl, sym, ◌∙◌, ap, subst, if◌then◌else◌}
+use Rattle.std.proofs.lemmas.Bool.{and_parts, false_from_ne_true}
 use Rattle.std.proofs.lemmas.Option.{none-some, same_Some}
 use Rattle.crgc_ids.specs.Actor.{Actor}
 use Rattle.turn_lock.specs.History.{calls_of, entry}
 use Rattle.history_model.specs.declared.events.Event.{Event}
 use Rattle.history_model.specs.declared.events.Event.TheVariants as events
 use Rattle.history_model.specs.declared.records.Verdict.{Verdict}
-use Rattle.history_model.specs.Cluster.{is_born}
 use Rattle.history_model.specs.Folds.{was_handed}
-use Rattle.history_model.specs.Legal.{checks, refusal}
-use Rattle.history_model.specs.Messages.{waiting}
-use Rattle.history_model.specs.State.{is_busy, is_root, is_up}
+use Rattle.history_model.specs.Legal.{refusal}
+use Rattle.history_model.specs.State.{is_up}
 use Rattle.history_model.specs.Streams.{Notice, stream}
-use Rattle.history_model.proofs.Basics.{eqb-refl, first_broken-none, same_actor-refl}
-use Rattle.behaviour_lang.specs.Bound.{Names, local_names, numbered}
-use Rattle.behaviour_lang.specs.Steps.{due_act, left}
-use Rattle.behaviour_lang.specs.TurnState.{instrs_of}
+use Rattle.history_model.proofs.Basics.{eqb-refl, same_actor-refl}
 use Rattle.behaviour_lang.specs.declared.act.Act.{Act}
 use Rattle.behaviour_lang.specs.declared.act.Act.TheVariants as acts
-use Rattle.behaviour_lang.specs.declared.act.List.{List as Lists}
-use Rattle.behaviour_lang.specs.declared.act.List.TheVariants as lists
 use Rattle.script_reader.specs.Valid.{Scripted}
-use Rattle.run_model.specs.Doing.{Doing, begins, cluster_of, doing, event_of, first_refs}
+use Rattle.run_model.specs.Doing.{cluster_of, event_of}
 use Rattle.run_model.specs.Follows.{begins_operation, fits, is_allowed, is_on_time}
-use Rattle.run_model.specs.Planned.{actors, carry, crash_due, is_possible, is_within_budget, lowest_copy, next_on_link, next_wake, wakes_left}
-use Rattle.run_model.proofs.ActsLegal.{busy-born}
+use Rattle.run_model.specs.Planned.{actors, crash_due, is_possible, is_within_budget, next_on_link, next_wake, wakes_left}
 use Rattle.run_model.proofs.Runs.{IsSound, due-allowed}
 use Rattle.operation_model.specs.declared.operations.Op.{Op}
 use Rattle.operation_model.specs.declared.operations.Op.TheVariants as ops
 use Rattle.operation_model.specs.declared.replies.Reply.{Reply}
 use Rattle.operation_model.specs.declared.replies.Reply.TheVariants as replies
-use Rattle.operation_model.specs.Answers.{IsBegun, IsGranted, Refusal, act_reply, first_refusal, refusals, refused, unknown}
-use Rattle.operation_model.specs.Courses.{behaviour_after, behaviour_at, claim_at, event_by, if_possible, names_after, names_at, next_removal, next_window, world}
-use Rattle.operation_model.specs.Deeds.{Begun, acted, deed_of, rested, took, turn_reply, woke}
+use Rattle.operation_model.specs.Answers.{IsGranted, Refusal, act_reply, first_refusal, refusals, refused, unknown}
+use Rattle.operation_model.specs.Courses.{claim_at, event_by, if_possible, next_removal, next_window, world}
+use Rattle.operation_model.specs.Deeds.{Begun, acted, deed_of, turn_reply}
 use Rattle.operation_model.specs.Fits.{Fits}
 use Rattle.operation_model.specs.Hands.{IsOwnVerdict, Spells, given, given_since, has_claimed}
-use Rattle.operation_model.specs.Kept.{IsKept, Keeps, KeepsHands, hands_of, names_of, open_turns}
+use Rattle.operation_model.specs.Kept.{IsKept, KeepsHands, hands_of, open_turns}
 use Rattle.operation_model.specs.Openings.{Opening}
-use Rattle.operation_model.specs.Turns.{Calls, IfOpen, IsNextAct, IsWholeTurn, Open, fresh, grown, turn_after, turn_left, with_act}
+use Rattle.operation_model.specs.Turns.{Calls, IsNextAct, IsWholeTurn, Open}
 use Rattle.operation_model.proofs.Claims.{hands-claimed, hands-handed, hands-nothing, hands-swept, is_of_collector}
-use Rattle.operation_model.proofs.Frames.{IsBeginning, child_of, is_still, still, take-begins, wake-begins}
-use Rattle.operation_model.proofs.Keeping.{ChangesTurn, keeps-acted, keeps-begun, keeps-rested, keeps-same, keeps-still, turner-busy, turner-reached}
-use Rattle.operation_model.proofs.Kept.{Goes, IsStep, LeavesHands, changes-hands, changes-turn, changes_hands, changes_turns, hands-left, leaves-hands, leaves-turns, same-hands, same-turns}
+use Rattle.operation_model.proofs.Frames.{child_of}
+use Rattle.operation_model.proofs.Kept.{Goes, IsStep, LeavesHands, changes-hands, changes_hands, hands-left, leaves-hands, same-hands}
 use Rattle.operation_model.proofs.Verdicts.{verdict-is}
-use Rattle.operation_model.proofs.Reached.{act-due, names-left, none-due}
-
 use Rattle.operation_model.proofs.GrantedTurns.{IsTurnStep, act-due_now, actor-busy, deed-act, found, granted-turns, if-open, is_none-some, link-event, none-due_now, not-false}
 
 -- ---- tests
@@ -125,7 +112,7 @@ module _ (o : Opening) (h : Calls) (k : IsKept o h) (sound : IsSound o.script (w
   hands n x j bytes m stands spells claimed new = λ legal. (
     goes S (events.Hand n x j) W refl k.none_due (rw not-handed refl) refl legal,
     hands-handed (cluster_of S) W (claim_at o h) (claim_at o (entry p (ops.Hand n x j) (replies.Bytes bytes) ∷ h)) (hands_of h) (hands_of (entry p (ops.Hand n x j) (replies.Bytes bytes) ∷ h)) k.hands
-    p n x j bytes claimed m stands spells (changes-hands p (ops.Hand n x j) (replies.Bytes bytes) h) (λ r. refl),
+        p n x j bytes claimed m stands spells (changes-hands p (ops.Hand n x j) (replies.Bytes bytes) h) (λ r. refl),
   )
     where
       -- what was handed was given to the pass that has claimed the node, which is this one
@@ -139,7 +126,7 @@ module _ (o : Opening) (h : Calls) (k : IsKept o h) (sound : IsSound o.script (w
   sweeps v claimed since own = λ legal. (
     goes S (events.Sweep v.node) W refl k.none_due (k.hands.since p v.node claimed since) refl legal,
     hands-swept (cluster_of S) W (claim_at o h) (claim_at o (entry p (ops.Sweep v) replies.Done ∷ h)) (hands_of h) (hands_of (entry p (ops.Sweep v) replies.Done ∷ h)) k.hands
-    p v claimed (verdict-is (cluster_of S) W (claim_at o h) h k.hands sound.0 p v claimed own) (changes-hands p (ops.Sweep v) replies.Done h) (λ m. refl),
+        p v claimed (verdict-is (cluster_of S) W (claim_at o h) h k.hands sound.0 p v claimed own) (changes-hands p (ops.Sweep v) replies.Done h) (λ m. refl),
   )
 
   wakes : (b : Begun) → is_within_budget S W ≡ true → next_wake S W ≡ Some b.actor → Shows ops.Wake (turn_reply b)

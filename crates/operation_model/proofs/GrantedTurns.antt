@@ -1,22 +1,19 @@
 -- What is granted keeps open turns, names and behaviours, whatever the lock was made with, if only its names said no more than is
 -- held: so the acts that fit are legal.
-use Rattle.std.proofs.Common.{◌≡◌, ◌==◌, ◌&&◌, ◌++◌, ℕ, Bool, true, false, not, nat_lt, List, [], ◌∷◌, option_map, slice_get, Option, Some, None, refl, sym, ◌∙◌, ap, subst, if◌then◌else◌, ◌⊎◌, inl, inr}
+use Rattle.std.proofs.Common.{◌≡◌, ◌==◌, ◌&&◌, ◌++◌, ℕ, Bool, true, false, not, List, [], ◌∷◌, option_map, Option, Some, None, refl, sym, ◌∙◌, ap, subst, if◌then◌else◌}
 use Rattle.std.specs.List.{find}
 use Rattle.std.specs.Option.{is_some}
-use Rattle.std.proofs.lemmas.Bool.{and_parts, false≢true, false_from_ne_true}
+use Rattle.std.proofs.lemmas.Bool.{false≢true}
 use Rattle.std.proofs.lemmas.Option.{none-some, same_Some}
 use Rattle.crgc_ids.specs.Actor.{Actor}
-use Rattle.turn_lock.specs.History.{calls_of, entry}
+use Rattle.turn_lock.specs.History.{entry}
 use Rattle.history_model.specs.declared.events.Event.{Event}
 use Rattle.history_model.specs.declared.events.Event.TheVariants as events
-use Rattle.history_model.specs.declared.records.Verdict.{Verdict}
 use Rattle.history_model.specs.Cluster.{is_born}
-use Rattle.history_model.specs.Folds.{was_handed}
 use Rattle.history_model.specs.Legal.{checks, refusal}
 use Rattle.history_model.specs.Messages.{waiting}
-use Rattle.history_model.specs.State.{is_busy, is_root, is_up}
-use Rattle.history_model.specs.Streams.{Notice, stream}
-use Rattle.history_model.proofs.Basics.{eqb-refl, first_broken-none, same_actor-refl}
+use Rattle.history_model.specs.State.{is_busy, is_root}
+use Rattle.history_model.proofs.Basics.{eqb-refl, first_broken-none}
 use Rattle.behaviour_lang.specs.Bound.{Names, local_names, numbered}
 use Rattle.behaviour_lang.specs.Steps.{due_act, left}
 use Rattle.behaviour_lang.specs.TurnState.{instrs_of}
@@ -26,29 +23,26 @@ use Rattle.behaviour_lang.specs.declared.act.List.{List as Lists}
 use Rattle.behaviour_lang.specs.declared.act.List.TheVariants as lists
 use Rattle.script_reader.specs.Valid.{Scripted}
 use Rattle.run_model.specs.Doing.{Doing, begins, cluster_of, doing, event_of, first_refs}
-use Rattle.run_model.specs.Follows.{begins_operation, fits, is_allowed, is_on_time}
-use Rattle.run_model.specs.Planned.{actors, carry, crash_due, is_possible, is_within_budget, lowest_copy, next_on_link, next_wake, wakes_left}
+use Rattle.run_model.specs.Follows.{begins_operation, fits, is_on_time}
+use Rattle.run_model.specs.Planned.{carry, is_possible, lowest_copy, next_on_link}
 use Rattle.run_model.proofs.ActsLegal.{busy-born}
 use Rattle.run_model.proofs.Runs.{IsSound}
 use Rattle.operation_model.specs.declared.operations.Op.{Op}
 use Rattle.operation_model.specs.declared.operations.Op.TheVariants as ops
 use Rattle.operation_model.specs.declared.replies.Reply.{Reply}
 use Rattle.operation_model.specs.declared.replies.Reply.TheVariants as replies
-use Rattle.operation_model.specs.Answers.{IsBegun, IsGranted, Refusal, act_reply, first_refusal, refusals, refused, unknown}
-use Rattle.operation_model.specs.Courses.{behaviour_after, behaviour_at, claim_at, event_by, if_possible, names_after, names_at, next_removal, next_window, world}
-use Rattle.operation_model.specs.Deeds.{Begun, acted, deed_of, rested, took, turn_reply, woke}
+use Rattle.operation_model.specs.Answers.{IsBegun, IsGranted, act_reply}
+use Rattle.operation_model.specs.Courses.{behaviour_after, behaviour_at, event_by, if_possible, names_after, names_at, next_removal, next_window, world}
+use Rattle.operation_model.specs.Deeds.{Begun, acted, deed_of, turn_reply}
 use Rattle.operation_model.specs.Fits.{Fits}
-use Rattle.operation_model.specs.Hands.{IsOwnVerdict, Spells, given, given_since, has_claimed}
 use Rattle.operation_model.specs.Kept.{IsReached, Keeps, names_of, open_turns, turner}
 use Rattle.operation_model.specs.Openings.{Opening}
 use Rattle.operation_model.specs.Turns.{Calls, IfOpen, IsNextAct, IsWholeTurn, Open, fresh, grown, turn_after, turn_left, with_act}
-use Rattle.operation_model.proofs.Claims.{hands-claimed, hands-handed, hands-nothing, hands-swept, is_of_collector}
+use Rattle.operation_model.proofs.Claims.{is_of_collector}
 use Rattle.operation_model.proofs.Frames.{IsBeginning, child_of, is_still, still, take-begins, wake-begins}
 use Rattle.operation_model.proofs.Keeping.{ChangesTurn, keeps-acted, keeps-begun, keeps-rested, keeps-same, keeps-still, turner-busy, turner-reached}
-use Rattle.operation_model.proofs.Kept.{changes-hands, changes-turn, changes_hands, changes_turns, hands-left, leaves-hands, leaves-turns, same-hands, same-turns}
-use Rattle.operation_model.proofs.Verdicts.{verdict-is}
+use Rattle.operation_model.proofs.Kept.{changes-turn, changes_turns, leaves-turns, same-turns}
 use Rattle.operation_model.proofs.Reached.{act-due, names-left, none-due}
-
 use Rattle.run_model.proofs.HeldNames.{IsDue}
 
 -- ---- tests
@@ -176,7 +170,7 @@ module _ (o : Opening) (h : Calls) (keeps : Keeps o.script (world o h) (open_tur
       λ legal. (
         still-due S e W is,
         keeps-still S W (open_turns h) (open_turns (entry p op r ∷ h)) (names_at o h) (names_at o (entry p op r ∷ h)) (behaviour_at o h) (behaviour_at o (entry p op r ∷ h)) keeps
-        e (still S e W is) (same-turns p op r h same) (λ a. same.names a (names_at o h a)) (λ a. same.behaviours a (behaviour_at o h a)),
+            e (still S e W is) (same-turns p op r h same) (λ a. same.names a (names_at o h a)) (λ a. same.behaviours a (behaviour_at o h a)),
       )
 
   cuts : (d : ℕ) (v : Option ℕ) → IsTurnStep o (entry p (ops.Window d) replies.Done ∷ h) W (option_map (events.Window d) v)
@@ -260,12 +254,12 @@ module _ (o : Opening) (h : Calls) (keeps : Keeps o.script (world o h) (open_tur
       let is = deed-act a act W in
       let changes = changes-turn p op r h in
       let grows : ChangesTurn p (open_turns h) (open_turns (entry p op r ∷ h)) (Some (with_act act (child_of a act W) t)) =
-          record { own = changes.own ∙ ap (λ x. turn_after x (open_turns h p)) is ∙ ap (grown act (child_of a act W)) is_open; others = changes.others } in
+      record { own = changes.own ∙ ap (λ x. turn_after x (open_turns h p)) is ∙ ap (grown act (child_of a act W)) is_open; others = changes.others } in
       subst (IsTurnStep o (entry p op r ∷ h) W) (sym (ap (λ x. event_by S x W) is))
       (λ legal. (
         act-is_due S a W act (act-due_now a act t is_open next),
         keeps-acted S W (open_turns h) (open_turns (entry p op r ∷ h)) (names_at o h) (names_at o (entry p op r ∷ h)) (behaviour_at o h) (behaviour_at o (entry p op r ∷ h)) keeps
-        p t a is_open next.0 act (act-due_now a act t is_open next) all-born grows (λ c. ap (λ x. names_after x c (names_at o h c)) is) (λ c. ap (λ x. behaviour_after x c (behaviour_at o h c)) is),
+            p t a is_open next.0 act (act-due_now a act t is_open next) all-born grows (λ c. ap (λ x. names_after x c (names_at o h c)) is) (λ c. ap (λ x. behaviour_after x c (behaviour_at o h c)) is),
       ))
 
   rests : (a : Actor) (locals : List (List ℕ × Actor)) (t : Open) → open_turns h p ≡ Some t → IsWholeTurn S.code a locals t → Turns (ops.Rest a locals) replies.Done
@@ -277,7 +271,7 @@ module _ (o : Opening) (h : Calls) (keeps : Keeps o.script (world o h) (open_tur
       λ legal. (
         tt,
         keeps-rested S W (open_turns h) (open_turns (entry p op r ∷ h)) (names_at o h) (names_at o (entry p op r ∷ h)) (behaviour_at o h) (behaviour_at o (entry p op r ∷ h)) keeps
-        p t a is_open done.0 locals (sym (names-left l d.turn t.acts t.children (actor-reached a t is_open done.0) done.1) ∙ done.2) (changes-turn p op r h) (λ c. refl) (λ c. refl),
+            p t a is_open done.0 locals (sym (names-left l d.turn t.acts t.children (actor-reached a t is_open done.0) done.1) ∙ done.2) (changes-turn p op r h) (λ c. refl) (λ c. refl),
       )
 
   -- whatever is granted

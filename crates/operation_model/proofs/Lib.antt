@@ -8,6 +8,7 @@ pub mod Kept
 pub mod GrantedTurns
 pub mod Granted
 pub mod CourseLaws
+pub mod SoundCourses
 pub mod Over
 pub mod OverCourses
 pub mod StillFits

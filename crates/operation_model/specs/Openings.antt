@@ -1,11 +1,13 @@
 -- With what a cluster's lock is made, and the cluster that a script makes.
-use Rattle.std.specs.Prelude.{ℕ, ◌≡◌, true, List, [], Option, None}
+use Rattle.std.specs.Prelude.{ℕ, ◌≡◌, true, false, List, [], Option, None}
 use Rattle.crgc_ids.specs.Actor.{Actor}
 use Rattle.history_model.specs.declared.events.Event.{Event}
 use Rattle.history_model.specs.Cluster.{is_born}
 use Rattle.behaviour_lang.specs.Bound.{Names}
 use Rattle.script_reader.specs.Valid.{Scripted}
-use Rattle.run_model.specs.Doing.{beginning, behaviour_of, first_names, is_in_ranges, row_of}
+use Rattle.history_model.specs.State.{is_busy}
+use Rattle.run_model.specs.Doing.{beginning, behaviour_of, doing, first_names, is_in_ranges, row_of}
+use Rattle.run_model.proofs.Runs.{IsSound}
 use Rattle.operation_model.specs.declared.replies.Halt.{Halt}
 
 -- a cluster as a lock is made with it: its script; its history; the behaviour and the names of each actor; which pass has
@@ -27,3 +29,10 @@ pub record IsNew (o : Opening) : Type 0 where
   pub names : (a : Actor) → is_born a o.past ≡ true → o.names a ≡ first_names o.script a
   pub claims : (n : ℕ) → o.claims n ≡ None
   pub halt : o.halt ≡ None
+
+-- a cluster in the middle of a run, or in whatever history, in which turns can go on: the history is legal, names say no more than
+-- is held, and of each actor it has the behaviour, and in no turn the names, that are its in the history
+pub record IsSoundOpening (o : Opening) : Type 0 where
+  pub sound : IsSound o.script o.past
+  pub names : (a : Actor) → is_born a o.past ≡ true → is_busy a o.past ≡ false → (let d = doing o.script a o.past in let l = d.turn in o.names a ≡ l.names)
+  pub behaviours : (a : Actor) → is_born a o.past ≡ true → (let d = doing o.script a o.past in o.behaviours a ≡ d.behaviour)

@@ -3,19 +3,24 @@ ghost use Rattle.std.specs.Prelude.{◌≡◌, ◌++◌, ℕ, true, List, [], So
 ghost use Rattle.crgc_ids.specs.Actor.{Actor};
 ghost use Rattle.crgc_ids.specs.declared.Which.{Which};
 ghost use Rattle.turn_lock.specs.History.{calls_of};
-ghost use Rattle.history_model.specs.Legal.{IsLegal};
+ghost use Rattle.history_model.specs.declared.events.Event.TheVariants.{Rest as Rested};
+ghost use Rattle.history_model.specs.Legal.{IsLegal, refusal};
+ghost use Rattle.history_model.specs.State.{is_up};
+ghost use Rattle.behaviour_lang.specs.declared.act.Act.{Act as Acts};
 ghost use Rattle.journal_model.specs.Verdicts.{AreVerdicts};
 ghost use Rattle.behaviour_lang.specs.Steps.{Left};
-ghost use Rattle.run_model.specs.Doing.{cluster_of};
+ghost use Rattle.run_model.specs.Doing.{cluster_of, event_of};
 ghost use Rattle.run_model.specs.Follows.{CouldPass, IsRun, is_over};
 ghost use Rattle.run_model.specs.Planned.{crash_due};
+ghost use Rattle.run_model.proofs.Runs.{IsSound};
 ghost use Rattle.operation_model.specs.Answers.{IsCourse};
-ghost use Rattle.operation_model.specs.Courses.{halt_at, verdicts, was_all_done, world};
+ghost use Rattle.operation_model.specs.Courses.{behaviour_at, halt_at, names_at, verdicts, was_all_done, world};
 ghost use Rattle.operation_model.specs.Fits.{Fits};
-ghost use Rattle.operation_model.specs.Kept.{IsKept};
-ghost use Rattle.operation_model.specs.Openings.{IsNew, Opening};
+ghost use Rattle.operation_model.specs.Kept.{IsKept, Keeps, open_turns};
+ghost use Rattle.operation_model.specs.Openings.{IsNew, IsSoundOpening, Opening};
 ghost use Rattle.operation_model.specs.Turns.{Calls, Grows};
 ghost use Rattle.operation_model.specs.declared.operations.Op.{Op};
+ghost use Rattle.operation_model.specs.declared.operations.Op.TheVariants.{Act, Rest};
 ghost use Rattle.operation_model.specs.declared.replies.Halt.TheVariants.{Limit};
 
 /// With more children a turn begins with the acts that it has without them. So the acts of a turn that a pass has open stay the
@@ -28,6 +33,22 @@ pub fn a_turn_grows_with_its_children()
 pub fn what_fits_still_fits()
     ensures { (o : Opening) (later history : Calls) (op : Op) (pass : ℕ) → calls_of pass later ≡ []
         → Fits o history op pass → Fits o (later ++ history) op pass }
+{}
+
+/// In a lock that was made with a sound cluster, and the cluster of a script is one, the world stays sound: legal, and with names
+/// that say no more than is held. The open turn of each pass is its actor's, no two passes have one actor's, and names and
+/// behaviours are the actors'. So no rule refuses the act or the rest that fits, on a node that is up.
+pub fn a_course_stays_sound()
+    ensures new { (o : Opening) → IsNew o → IsSoundOpening o }
+    ensures sound { (o : Opening) (h : Calls) → IsSoundOpening o → IsCourse o h → IsSound o.script (world o h) }
+    ensures keeps { (o : Opening) (h : Calls) → IsSoundOpening o → IsCourse o h
+        → Keeps o.script (world o h) (open_turns h) (names_at o h) (behaviour_at o h) }
+    ensures act { (o : Opening) (h : Calls) (a : Actor) (act : Acts) (pass : ℕ) → IsSoundOpening o → IsCourse o h
+        → Fits o h (Act a act) pass → is_up a.node (world o h) ≡ true
+        → refusal (cluster_of o.script) (event_of a (Some act)) (world o h) ≡ None }
+    ensures rest { (o : Opening) (h : Calls) (a : Actor) (locals : List (List ℕ × Actor)) (pass : ℕ) → IsSoundOpening o
+        → IsCourse o h → Fits o h (Rest a locals) pass → is_up a.node (world o h) ≡ true
+        → refusal (cluster_of o.script) (Rested a) (world o h) ≡ None }
 {}
 
 /// In a lock that was made with the cluster of a script, the world's history after each course of calls is a run of the script,
