@@ -241,8 +241,12 @@ crashed =
 
 sent-course : IsCourse new_senders sent
 sent-course = (
-  (refl, ([], refl)), inl (refl, (refl, refl, tt)), (
-    (refl, ([], refl)), inl (refl, (refl, refl, tt)), (
+  (refl, ([], refl)),
+  inl (refl, (refl, refl, tt)),
+  (
+    (refl, ([], refl)),
+    inl (refl, (refl, refl, tt)),
+    (
       tt,
       inl ((sending, refl, refl, record { behaviour = refl; list_is = refl; names = refl; refs_are = refl; root = refl }), (refl, refl, tt)),
       tt,
@@ -252,18 +256,30 @@ sent-course = (
 
 carried_twice-course : IsCourse new_senders carried_twice
 carried_twice-course = (
-  tt, inl (refl, (refl, refl, tt)), (
-    tt, inl (refl, (refl, refl, tt)), (
-      (refl, refl, refl), inl (refl, (refl, refl, tt)), sent-course,
+  tt,
+  inl (refl, (refl, refl, tt)),
+  (
+    tt,
+    inl (refl, (refl, refl, tt)),
+    (
+      (refl, refl, refl),
+      inl (refl, (refl, refl, tt)),
+      sent-course,
     ),
   ),
 )
 
 crashed-course : IsCourse new_senders crashed
 crashed-course = (
-  tt, inl (refl, tt), (
-    tt, inl (refl, tt), (
-      (refl, refl, refl), inl (refl, (refl, refl, (refl, refl, tt))), (
+  tt,
+  inl (refl, tt),
+  (
+    tt,
+    inl (refl, tt),
+    (
+      (refl, refl, refl),
+      inl (refl, (refl, refl, (refl, refl, tt))),
+      (
         tt,
         inl ((keeping, refl, refl, record { behaviour = refl; list_is = refl; names = refl; refs_are = refl; root = refl }), (refl, refl, tt)),
         carried_twice-course,

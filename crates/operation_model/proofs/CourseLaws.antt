@@ -36,7 +36,7 @@ use Rattle.operation_model.specs.Answers.{act_reply, IsAnswer, IsCourse, IsGrant
 use Rattle.operation_model.specs.Courses.{behaviour_at, claim_at, event_by, events_by, halt_after, halt_at, names_at, with_added, world}
 use Rattle.operation_model.specs.Deeds.{deed_of, nothing}
 use Rattle.operation_model.specs.Fits.{Fits}
-use Rattle.operation_model.specs.Kept.{Hands, IsKept, IsKeptIn, Keeps, KeepsHands, hands_of, names_of, open_turns}
+use Rattle.operation_model.specs.Kept.{Hands, IsKept, IsKeptIn, KeepsTurns, KeepsHands, hands_of, names_of, open_turns}
 use Rattle.operation_model.specs.Openings.{IsNew, Opening}
 use Rattle.operation_model.specs.Turns.{Calls, Open}
 use Rattle.operation_model.proofs.Claims.{hands-event, hands-nothing, is_of_collector}
@@ -133,7 +133,7 @@ module _ (s : Scripted) (turns : ℕ → Option Open) (names : Actor → Names) 
   At w = IsKeptIn s w turns names behaviours claims x
 
   -- a crash or a publish that is added
-  added-still : (e : Event) (w : List Event) → is_allowed s e w ≡ true → is_still e ≡ true → is_of_collector e ≡ false → crash_due s (e ∷ w) ≡ None → IsRun s w → Keeps s w turns names behaviours → KeepsHands (cluster_of s) w claims x → At (e ∷ w)
+  added-still : (e : Event) (w : List Event) → is_allowed s e w ≡ true → is_still e ≡ true → is_of_collector e ≡ false → crash_due s (e ∷ w) ≡ None → IsRun s w → KeepsTurns s w turns names behaviours → KeepsHands (cluster_of s) w claims x → At (e ∷ w)
   added-still e w allowed is none none_due run keeps hands = record {
     run = run-more s e w run allowed;
     none_due = none_due;
@@ -141,20 +141,20 @@ module _ (s : Scripted) (turns : ℕ → Option Open) (names : Actor → Names) 
     hands = hands-event (cluster_of s) w claims claims x x hands e (hands-nothing (cluster_of s) e w none);
   }
 
-  rest-added : (a : Actor) (w : List Event) (v : Option ℕ) → crash_due s (events.Rest a ∷ w) ≡ v → IsRun s (events.Rest a ∷ w) → Keeps s (events.Rest a ∷ w) turns names behaviours → KeepsHands (cluster_of s) (events.Rest a ∷ w) claims x
+  rest-added : (a : Actor) (w : List Event) (v : Option ℕ) → crash_due s (events.Rest a ∷ w) ≡ v → IsRun s (events.Rest a ∷ w) → KeepsTurns s (events.Rest a ∷ w) turns names behaviours → KeepsHands (cluster_of s) (events.Rest a ∷ w) claims x
       → MayFollow s (option_to_list (option_map events.Crash v)) (events.Rest a ∷ w) → At (onto (events.Rest a ∷ w) (option_to_list (option_map events.Crash v)))
   rest-added a w None due run keeps hands follow = record { run = run; none_due = due; keeps = keeps; hands = hands }
   rest-added a w (Some n) due run keeps hands follow =
       added-still (events.Crash n) (events.Rest a ∷ w) (crash-allowed s n (events.Rest a ∷ w) due follow.0) refl refl refl run keeps hands
 
-  flush-added : (a : Actor) (w : List Event) (v : Bool) → IsRun s (events.Flush a ∷ w) → Keeps s (events.Flush a ∷ w) turns names behaviours → KeepsHands (cluster_of s) (events.Flush a ∷ w) claims x
+  flush-added : (a : Actor) (w : List Event) (v : Bool) → IsRun s (events.Flush a ∷ w) → KeepsTurns s (events.Flush a ∷ w) turns names behaviours → KeepsHands (cluster_of s) (events.Flush a ∷ w) claims x
       → MayFollow s (option_to_list (if v then Some (events.Publish a.node) else None)) (events.Flush a ∷ w) → At (onto (events.Flush a ∷ w) (option_to_list (if v then Some (events.Publish a.node) else None)))
   flush-added a w false run keeps hands follow = record { run = run; none_due = refl; keeps = keeps; hands = hands }
   flush-added a w true run keeps hands follow =
       added-still (events.Publish a.node) (events.Flush a ∷ w) (publish-allowed s a.node (events.Flush a ∷ w) refl follow.0) refl refl refl run keeps hands
 
   -- after the first event comes what is added to it
-  with-second : (e : Event) (w : List Event) → IsRun s (e ∷ w) → Keeps s (e ∷ w) turns names behaviours → KeepsHands (cluster_of s) (e ∷ w) claims x → MayFollow s (option_to_list (added s e w)) (e ∷ w) → At (onto (e ∷ w) (option_to_list (added s e w)))
+  with-second : (e : Event) (w : List Event) → IsRun s (e ∷ w) → KeepsTurns s (e ∷ w) turns names behaviours → KeepsHands (cluster_of s) (e ∷ w) claims x → MayFollow s (option_to_list (added s e w)) (e ∷ w) → At (onto (e ∷ w) (option_to_list (added s e w)))
   with-second (events.Rest a) w run keeps hands follow = rest-added a w (crash_due s (events.Rest a ∷ w)) refl run keeps hands follow
   with-second (events.Flush a) w run keeps hands follow = flush-added a w (queued a.node (events.Flush a ∷ w) == FLUSHES_PER_PUBLISH) run keeps hands follow
   with-second e w run keeps hands follow = record { run = run; none_due = refl; keeps = keeps; hands = hands }

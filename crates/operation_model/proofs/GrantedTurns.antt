@@ -35,12 +35,12 @@ use Rattle.operation_model.specs.Answers.{IsBegun, IsGranted, act_reply}
 use Rattle.operation_model.specs.Courses.{behaviour_after, behaviour_at, event_by, if_possible, names_after, names_at, next_removal, next_window, world}
 use Rattle.operation_model.specs.Deeds.{Begun, acted, deed_of, turn_reply}
 use Rattle.operation_model.specs.Fits.{Fits}
-use Rattle.operation_model.specs.Kept.{IsReached, Keeps, names_of, open_turns, turner}
+use Rattle.operation_model.specs.Kept.{IsReached, KeepsTurns, names_of, open_turns, turn_actor}
 use Rattle.operation_model.specs.Openings.{Opening}
 use Rattle.operation_model.specs.Turns.{Calls, IfOpen, IsNextAct, IsWholeTurn, Open, fresh, grown, turn_after, turn_left, with_act}
 use Rattle.operation_model.proofs.Claims.{is_of_collector}
 use Rattle.operation_model.proofs.Frames.{IsBeginning, child_of, is_still, still, take-begins, wake-begins}
-use Rattle.operation_model.proofs.Keeping.{ChangesTurn, keeps-acted, keeps-begun, keeps-rested, keeps-same, keeps-still, turner-busy, turner-reached}
+use Rattle.operation_model.proofs.Keeping.{ChangesTurn, keeps-acted, keeps-begun, keeps-rested, keeps-same, keeps-still, turn_actor-busy, turn_actor-reached}
 use Rattle.operation_model.proofs.Kept.{changes-turn, changes_turns, leaves-turns, same-turns}
 use Rattle.operation_model.proofs.Reached.{act-due, names-left, none-due}
 use Rattle.run_model.proofs.HeldNames.{IsDue}
@@ -126,9 +126,9 @@ deed-act a acts.Retire w = refl
 -- what the first event of a call does to turns, names and behaviours, where h are the calls with it, and w is the world before;
 -- where there is none, what is kept at once
 abbrev pub IsTurnStep : Opening → Calls → List Event → Option Event → Type 0
-IsTurnStep o h w None = Keeps o.script w (open_turns h) (names_at o h) (behaviour_at o h)
+IsTurnStep o h w None = KeepsTurns o.script w (open_turns h) (names_at o h) (behaviour_at o h)
 IsTurnStep o h w (Some e) =
-    refusal (cluster_of o.script) e w ≡ None → IsDue o.script e w × Keeps o.script (e ∷ w) (open_turns h) (names_at o h) (behaviour_at o h)
+    refusal (cluster_of o.script) e w ≡ None → IsDue o.script e w × KeepsTurns o.script (e ∷ w) (open_turns h) (names_at o h) (behaviour_at o h)
 
 -- an event in which nobody acts is no act
 still-due : (s : Scripted) (e : Event) (w : List Event) → is_still e ≡ true → IsDue s e w
@@ -146,7 +146,7 @@ act-is_due s a w (acts.Send t refs) due = due
 act-is_due s a w (acts.Drop t) due = due
 act-is_due s a w acts.Retire due = due
 
-module _ (o : Opening) (h : Calls) (keeps : Keeps o.script (world o h) (open_turns h) (names_at o h) (behaviour_at o h)) (sound : IsSound o.script (world o h)) (p : ℕ) where
+module _ (o : Opening) (h : Calls) (keeps : KeepsTurns o.script (world o h) (open_turns h) (names_at o h) (behaviour_at o h)) (sound : IsSound o.script (world o h)) (p : ℕ) where
   abbrev S : Scripted
   S = o.script
 
@@ -200,7 +200,7 @@ module _ (o : Opening) (h : Calls) (keeps : Keeps o.script (world o h) (open_tur
   -- a turn begins: its actor was idle and born
   starts : (op : Op) (r : Reply) (b : Begun) (e : Event) (list : Lists) (refs : List Actor) → IsBeginOf op r b → is_born b.actor W ≡ true → is_busy b.actor W ≡ false
       → IsBeginning S b.actor (begins S list refs (is_root b.actor W) (doing S b.actor W)) e W → IsBegun o h list refs b
-      → Keeps S (e ∷ W) (open_turns (entry p op r ∷ h)) (names_at o (entry p op r ∷ h)) (behaviour_at o (entry p op r ∷ h))
+      → KeepsTurns S (e ∷ W) (open_turns (entry p op r ∷ h)) (names_at o (entry p op r ∷ h)) (behaviour_at o (entry p op r ∷ h))
   starts op r b e list refs deed born idle begin begun =
       let now = begins S list refs (is_root b.actor W) (doing S b.actor W) in
       let d = doing S b.actor W in
@@ -232,12 +232,12 @@ module _ (o : Opening) (h : Calls) (keeps : Keeps o.script (world o h) (open_tur
   all-born : (c : Actor) → is_busy c W ≡ true → is_born c W ≡ true
   all-born c busy = busy-born (cluster_of S) W sound.0 c busy
 
-  module _ (a : Actor) (t : Open) (is_open : open_turns h p ≡ Some t) (actor : turner t ≡ a) where
+  module _ (a : Actor) (t : Open) (is_open : open_turns h p ≡ Some t) (actor : turn_actor t ≡ a) where
     pub actor-busy : is_busy a W ≡ true
-    actor-busy = turner-busy S W (open_turns h) (open_turns h) (names_at o h) (names_at o h) (behaviour_at o h) (behaviour_at o h) keeps p t a is_open actor
+    actor-busy = turn_actor-busy S W (open_turns h) (open_turns h) (names_at o h) (names_at o h) (behaviour_at o h) (behaviour_at o h) keeps p t a is_open actor
 
     actor-reached : (let d = doing S a W in IsReached (turn_left S.code t.begun) t.acts t.children d.turn)
-    actor-reached = turner-reached S W (open_turns h) (open_turns h) (names_at o h) (names_at o h) (behaviour_at o h) (behaviour_at o h) keeps p t a is_open actor
+    actor-reached = turn_actor-reached S W (open_turns h) (open_turns h) (names_at o h) (names_at o h) (behaviour_at o h) (behaviour_at o h) keeps p t a is_open actor
 
   -- the act that fits is due
   pub act-due_now : (a : Actor) (act : Act) (t : Open) → open_turns h p ≡ Some t → IsNextAct S.code a act t → (let d = doing S a W in due_act d.turn ≡ Some act)

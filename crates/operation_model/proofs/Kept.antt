@@ -15,7 +15,7 @@ use Rattle.operation_model.specs.declared.replies.Reply.{Reply}
 use Rattle.operation_model.specs.Courses.{behaviour_after, behaviour_at, claim_after, claim_at, names_after, names_at, verdict_of, verdicts}
 use Rattle.operation_model.specs.Deeds.{Deed, acted, claimed, deed_of, handed, rested, swept, took, woke}
 use Rattle.operation_model.specs.Hands.{given, given_by, given_since, given_since_by, has_claimed, is_claim_of, own_stopped, stops_actor}
-use Rattle.operation_model.specs.Kept.{Keeps, KeepsHands, hands_of, open_turns}
+use Rattle.operation_model.specs.Kept.{KeepsTurns, KeepsHands, hands_of, open_turns}
 use Rattle.operation_model.specs.Openings.{Opening}
 use Rattle.operation_model.specs.Turns.{Calls, Open, open_turn, turn_after}
 use Rattle.operation_model.proofs.Claims.{ChangesHands, HandsNothing, hands-event, hands-same}
@@ -29,11 +29,11 @@ Goes s e w = (is_allowed s e w ≡ true) × (begins_operation s e w ≡ true)
 -- is kept at once
 abbrev pub IsStep : Opening → Calls → List Event → Option Event → Type 0
 IsStep o h w None =
-    Keeps o.script w (open_turns h) (names_at o h) (behaviour_at o h) × KeepsHands (cluster_of o.script) w (claim_at o h) (hands_of h)
+    KeepsTurns o.script w (open_turns h) (names_at o h) (behaviour_at o h) × KeepsHands (cluster_of o.script) w (claim_at o h) (hands_of h)
 IsStep o h w (Some e) =
     refusal (cluster_of o.script) e w ≡ None
     → Goes o.script e w
-    × Keeps o.script (e ∷ w) (open_turns h) (names_at o h) (behaviour_at o h)
+    × KeepsTurns o.script (e ∷ w) (open_turns h) (names_at o h) (behaviour_at o h)
     × KeepsHands (cluster_of o.script) (e ∷ w) (claim_at o h) (hands_of h)
 
 -- whether a deed changes turns, names or behaviours; and claims or hands

@@ -26,7 +26,7 @@ use Rattle.operation_model.specs.Answers.{IsCourse, IsGranted, IsReply, MayAnswe
 use Rattle.operation_model.specs.Courses.{behaviour_at, claim_at, event_by, events_by, halt_at, names_at, with_added, world}
 use Rattle.operation_model.specs.Deeds.{deed_of, nothing}
 use Rattle.operation_model.specs.Fits.{Fits}
-use Rattle.operation_model.specs.Kept.{Keeps, open_turns}
+use Rattle.operation_model.specs.Kept.{KeepsTurns, open_turns}
 use Rattle.operation_model.specs.Openings.{IsNew, IsSoundOpening, Opening}
 use Rattle.operation_model.specs.Turns.{Calls, IsNextAct, IsWholeTurn, Open}
 use Rattle.operation_model.proofs.CourseLaws.{halted-quiet, kept-start, refused-quiet, world-nothing}
@@ -37,7 +37,7 @@ use Rattle.operation_model.proofs.Kept.{LeavesTurns, leaves-turns, same-turns}
 
 -- the world is sound, and the calls tell of turns, names and behaviours what is so in it
 abbrev IsSoundIn : Scripted → List Event → (ℕ → Option Open) → (Actor → Names) → (Actor → ℕ) → Type 0
-IsSoundIn s w turns names behaviours = IsSound s w × Keeps s w turns names behaviours
+IsSoundIn s w turns names behaviours = IsSound s w × KeepsTurns s w turns names behaviours
 
 module _ (s : Scripted) (turns : ℕ → Option Open) (names : Actor → Names) (behaviours : Actor → ℕ) where
   abbrev At : List Event → Type 0
@@ -106,7 +106,7 @@ module _ (o : Opening) (h : Calls) (at : IsSoundAt o h) (p : ℕ) (op : Op) (r :
   sound-reply fit (Some why) is = sound-nothing (ap (deed_of op) is ∙ halted-quiet op why)
   sound-reply fit None answer = sound-answered fit answer
 
-pub sound-course : (o : Opening) → IsSoundOpening o → (h : Calls) → IsCourse o h → IsSound o.script (world o h) × Keeps o.script (world o h) (open_turns h) (names_at o h) (behaviour_at o h)
+pub sound-course : (o : Opening) → IsSoundOpening o → (h : Calls) → IsCourse o h → IsSound o.script (world o h) × KeepsTurns o.script (world o h) (open_turns h) (names_at o h) (behaviour_at o h)
 sound-course o opening [] course = (
   opening.sound,
   record {

@@ -34,8 +34,8 @@ IsReached l done children now =
     (more : List Actor) → visible (whole l (children ++ more)) ≡ after_acts done (visible (whole now more))
 
 -- the actor of an open turn
-abbrev pub turner : Open → Actor
-turner t = (let b = t.begun in b.actor)
+abbrev pub turn_actor : Open → Actor
+turn_actor t = (let b = t.begun in b.actor)
 
 -- the names of what an actor does
 abbrev pub names_of : Doing → Names
@@ -43,14 +43,14 @@ names_of d = (let l = d.turn in l.names)
 
 -- the turn is the actor's in the world: it is busy, and its turn has come so far
 pub record IsRunning (s : Scripted) (w : List Event) (t : Open) : Type 0 where
-  pub busy : is_busy (turner t) w ≡ true
-  pub reached : (let d = doing s (turner t) w in IsReached (turn_left s.code t.begun) t.acts t.children d.turn)
+  pub busy : is_busy (turn_actor t) w ≡ true
+  pub reached : (let d = doing s (turn_actor t) w in IsReached (turn_left s.code t.begun) t.acts t.children d.turn)
 
 -- each open turn runs in the world, and no two passes have one actor's; the names of who is in no turn, and all behaviours, are
 -- those of the world
-pub record Keeps (s : Scripted) (w : List Event) (turns : ℕ → Option Open) (names : Actor → Names) (behaviours : Actor → ℕ) : Type 0 where
+pub record KeepsTurns (s : Scripted) (w : List Event) (turns : ℕ → Option Open) (names : Actor → Names) (behaviours : Actor → ℕ) : Type 0 where
   pub running : (p : ℕ) (t : Open) → turns p ≡ Some t → IsRunning s w t
-  pub apart : (p q : ℕ) (t u : Open) → turns p ≡ Some t → turns q ≡ Some u → turner t ≡ turner u → p ≡ q
+  pub apart : (p q : ℕ) (t u : Open) → turns p ≡ Some t → turns q ≡ Some u → turn_actor t ≡ turn_actor u → p ≡ q
   pub names_are : (a : Actor) → is_born a w ≡ true → is_busy a w ≡ false → names a ≡ names_of (doing s a w)
   pub behaviours_are : (a : Actor) → is_born a w ≡ true → (let d = doing s a w in behaviours a ≡ d.behaviour)
 
@@ -105,7 +105,7 @@ hands_of h = record {
 pub record IsKeptIn (s : Scripted) (w : List Event) (turns : ℕ → Option Open) (names : Actor → Names) (behaviours : Actor → ℕ) (claims : ℕ → Option ℕ) (x : Hands) : Type 0 where
   pub run : IsRun s w
   pub none_due : crash_due s w ≡ None
-  pub keeps : Keeps s w turns names behaviours
+  pub keeps : KeepsTurns s w turns names behaviours
   pub hands : KeepsHands (cluster_of s) w claims x
 
 abbrev pub IsKept : Opening → Calls → Type 0

@@ -16,7 +16,7 @@ ghost use Rattle.run_model.proofs.Runs.{IsSound};
 ghost use Rattle.operation_model.specs.Answers.{IsCourse};
 ghost use Rattle.operation_model.specs.Courses.{behaviour_at, halt_at, names_at, verdicts, was_all_done, world};
 ghost use Rattle.operation_model.specs.Fits.{Fits};
-ghost use Rattle.operation_model.specs.Kept.{IsKept, Keeps, open_turns};
+ghost use Rattle.operation_model.specs.Kept.{IsKept, KeepsTurns, open_turns};
 ghost use Rattle.operation_model.specs.Openings.{IsNew, IsSoundOpening, Opening};
 ghost use Rattle.operation_model.specs.Turns.{Calls, Grows};
 ghost use Rattle.operation_model.specs.declared.operations.Op.{Op};
@@ -42,7 +42,7 @@ pub fn a_course_stays_sound()
     ensures new { (o : Opening) → IsNew o → IsSoundOpening o }
     ensures sound { (o : Opening) (h : Calls) → IsSoundOpening o → IsCourse o h → IsSound o.script (world o h) }
     ensures keeps { (o : Opening) (h : Calls) → IsSoundOpening o → IsCourse o h
-        → Keeps o.script (world o h) (open_turns h) (names_at o h) (behaviour_at o h) }
+        → KeepsTurns o.script (world o h) (open_turns h) (names_at o h) (behaviour_at o h) }
     ensures act { (o : Opening) (h : Calls) (a : Actor) (act : Acts) (pass : ℕ) → IsSoundOpening o → IsCourse o h
         → Fits o h (Act a act) pass → is_up a.node (world o h) ≡ true
         → refusal (cluster_of o.script) (event_of a (Some act)) (world o h) ≡ None }
