@@ -23,6 +23,7 @@ use Rattle.operation_model.specs.Courses.{verdict_of}
 use Rattle.operation_model.specs.Deeds.{Deed, claimed, handed, swept}
 use Rattle.operation_model.specs.Hands.{Spells, given_by, given_since_by, is_claim_of, is_stop_of, stops_actor}
 use Rattle.operation_model.specs.Kept.{Hands, IsHanded, KeepsHands}
+use Rattle.operation_model.proofs.Passes.{by_pass, by_test, same-by_pass}
 
 -- the deed of a pass changes what that pass has done, and nothing of the others
 pub record ChangesHands (p : ℕ) (d : Deed) (x y : Hands) : Type 0 where
@@ -70,19 +71,6 @@ stands-longer cl e w o k m is =
 handed-longer : (cl : Cluster) (e : Event) (w : List Event) (n o k : ℕ) (bytes : List ℕ) → was_handed n o k (e ∷ w) ≡ true → IsHanded cl w n o k bytes → IsHanded cl (e ∷ w) n o k bytes
 handed-longer cl e w n o k bytes was h = record { was = was; notice = h.notice; stands = stands-longer cl e w o k h.notice h.stands; spells = h.spells }
 
--- by a test
-by_test : (v : Bool) (G : Type 0) → (v ≡ true → G) → (v ≡ false → G) → G
-by_test true G holds fails = holds refl
-by_test false G holds fails = fails refl
-
--- by whether it is that pass
-of_pass : (p q : ℕ) (G : Type 0) → (q ≡ p → G) → ((q == p) ≡ false → G) → G
-of_pass p q G own other = by_test (q == p) G (λ same. own (eqb-true q p same)) other
-
--- what a pass has done that its deed leaves as it was
-kept-by_pass : {A : Type 0} (p : ℕ) (f g : ℕ → A) → f p ≡ g p → ((q : ℕ) → (q == p) ≡ false → f q ≡ g q) → (q : ℕ) → f q ≡ g q
-kept-by_pass p f g own others q = of_pass p q (f q ≡ g q) (λ same. ap f same ∙ own ∙ ap g (sym same)) (others q)
-
 either-right : (u v : Bool) → v ≡ true → (u || v) ≡ true
 either-right true v is = refl
 either-right false v is = is
@@ -126,10 +114,10 @@ module _ (cl : Cluster) (w : List Event) (claims claims' : ℕ → Option ℕ) (
     own-before m differ is = sym (changes.own_claim m ∙ rw differ refl) ∙ is
 
     given-still : (q m o j : ℕ) → y.given q m o j ≡ x.given q m o j
-    given-still q m o j = kept-by_pass p (λ r. y.given r m o j) (λ r. x.given r m o j) (changes.own_given m o j) (λ r other. changes.other_given r m o j other) q
+    given-still q m o j = same-by_pass p (λ r. y.given r m o j) (λ r. x.given r m o j) (changes.own_given m o j) (λ r other. changes.other_given r m o j other) q
 
     stops-still : (q : ℕ) (a : Actor) → y.has_stopped q a ≡ x.has_stopped q a
-    stops-still q a = kept-by_pass p (λ r. y.has_stopped r a) (λ r. x.has_stopped r a) (changes.own_stops a) (λ r other. changes.other_stops r a other) q
+    stops-still q a = same-by_pass p (λ r. y.has_stopped r a) (λ r. x.has_stopped r a) (changes.own_stops a) (λ r other. changes.other_stops r a other) q
 
     still-claimed : (m q : ℕ) → claims m ≡ Some q → claims' m ≡ Some q
     still-claimed m q is = new m ∙ rw (claimed-other m q is) is
@@ -148,19 +136,19 @@ module _ (cl : Cluster) (w : List Event) (claims claims' : ℕ → Option ℕ) (
 
     pub hands-claimed : KeepsHands cl w claims' y
     hands-claimed = record {
-      claimed_by = λ q m is. of_pass p q (claims' m ≡ Some q)
+      claimed_by = λ q m is. by_pass p q (claims' m ≡ Some q)
           (λ same. subst (λ r. claims' m ≡ Some r) (sym same) (by_test (n == m) (claims' m ≡ Some p)
           (λ match. new m ∙ rw match refl)
           (λ differ. still-claimed m p (k.claimed_by p m (own-before m differ (subst (λ r. y.has_claimed r m ≡ true) same is))))))
           (λ other. still-claimed m q (k.claimed_by q m (sym (changes.other_claim q m other) ∙ is)));
       handed_by = λ m o j is. (let h = k.handed_by m o j is in (h.0, still-claimed m h.0 h.1, (h.2.0, given-still h.0 m o j ∙ h.2.1)));
       given_is = λ q m o j bytes is. k.given_is q m o j bytes (sym (given-still q m o j) ∙ is);
-      since = λ q m is given. of_pass p q (handed_since m w ≡ true)
+      since = λ q m is given. by_pass p q (handed_since m w ≡ true)
           (λ same. by_test (n == m) (handed_since m w ≡ true)
           (λ match. absurd (false≢true (sym (changes.own_since m ∙ rw match refl) ∙ subst (λ r. y.given_since r m ≡ true) same given)))
           (λ differ. k.since p m (own-before m differ (subst (λ r. y.has_claimed r m ≡ true) same is)) (sym (changes.own_since m ∙ rw differ refl) ∙ subst (λ r. y.given_since r m ≡ true) same given)))
           (λ other. k.since q m (sym (changes.other_claim q m other) ∙ is) (sym (changes.other_since q m other) ∙ given));
-      stops_are = λ q a is. stops-still q a ∙ of_pass p q (x.has_stopped q a ≡ is_stopped cl a w)
+      stops_are = λ q a is. stops-still q a ∙ by_pass p q (x.has_stopped q a ≡ is_stopped cl a w)
           (λ same. subst (λ r. x.has_stopped r a ≡ is_stopped cl a w) (sym same) (by_test (n == a.node) (x.has_stopped p a ≡ is_stopped cl a w)
           (stops-new a)
           (λ differ. k.stops_are p a (own-before a.node differ (subst (λ r. y.has_claimed r a.node ≡ true) same is)))))
@@ -168,7 +156,7 @@ module _ (cl : Cluster) (w : List Event) (claims claims' : ℕ → Option ℕ) (
       none_stopped = λ a none. k.none_stopped a (free-before a.node none);
       stops_own = λ q a is.
           let before = k.stops_own q a (sym (stops-still q a) ∙ is) in
-          of_pass p q (y.has_claimed q a.node ≡ true)
+          by_pass p q (y.has_claimed q a.node ≡ true)
           (λ same. subst (λ r. y.has_claimed r a.node ≡ true) (sym same) (changes.own_claim a.node ∙ either-right (n == a.node) (x.has_claimed p a.node) (subst (λ r. x.has_claimed r a.node ≡ true) same before)))
           (λ other. changes.other_claim q a.node other ∙ before);
       verdicts_are = subst (AreVerdicts cl w) (sym changes.all_verdicts) k.verdicts_are;
@@ -177,16 +165,16 @@ module _ (cl : Cluster) (w : List Event) (claims claims' : ℕ → Option ℕ) (
   -- a bulletin is handed by the pass that has claimed the node
   module _ (p n o j : ℕ) (bytes : List ℕ) (own : x.has_claimed p n ≡ true) (m : Notice) (stands : slice_get (stream cl o w) j ≡ Some m) (spells : Spells o bytes m) (changes : ChangesHands p (handed n o j bytes) x y) (same_claims : (r : ℕ) → claims' r ≡ claims r) where
     same-claimed : (q r : ℕ) → y.has_claimed q r ≡ x.has_claimed q r
-    same-claimed q r = kept-by_pass p (λ z. y.has_claimed z r) (λ z. x.has_claimed z r) (changes.own_claim r) (λ z other. changes.other_claim z r other) q
+    same-claimed q r = same-by_pass p (λ z. y.has_claimed z r) (λ z. x.has_claimed z r) (changes.own_claim r) (λ z other. changes.other_claim z r other) q
 
     same-stops : (q : ℕ) (a : Actor) → y.has_stopped q a ≡ x.has_stopped q a
-    same-stops q a = kept-by_pass p (λ z. y.has_stopped z a) (λ z. x.has_stopped z a) (changes.own_stops a) (λ z other. changes.other_stops z a other) q
+    same-stops q a = same-by_pass p (λ z. y.has_stopped z a) (λ z. x.has_stopped z a) (changes.own_stops a) (λ z other. changes.other_stops z a other) q
 
     abbrev Matches : ℕ → ℕ → ℕ → Bool
     Matches r a i = (n == r) && ((o == a) && (j == i))
 
     given-before : (q r a i : ℕ) → Matches r a i ≡ false → y.given q r a i ≡ x.given q r a i
-    given-before q r a i differ = kept-by_pass p (λ z. y.given z r a i) (λ z. x.given z r a i) (changes.own_given r a i ∙ rw differ refl) (λ z other. changes.other_given z r a i other) q
+    given-before q r a i differ = same-by_pass p (λ z. y.given z r a i) (λ z. x.given z r a i) (changes.own_given r a i ∙ rw differ refl) (λ z other. changes.other_given z r a i other) q
 
     earlier : (u v : Bool) → u ≡ false → (u || v) ≡ true → v ≡ true
     earlier true v e is = absurd (false≢true (sym e))
@@ -209,7 +197,7 @@ module _ (cl : Cluster) (w : List Event) (claims claims' : ℕ → Option ℕ) (
     given-handed : (q r a i : ℕ) (found : List ℕ) → y.given q r a i ≡ Some found → IsHanded cl (Hand n o j ∷ w) r a i found
     given-handed q r a i found is =
         let old = λ (before : x.given q r a i ≡ Some found). (let h = k.given_is q r a i found before in handed-longer cl (Hand n o j) w r a i found (either-right (Matches r a i) (was_handed r a i w) h.was) h) in
-        of_pass p q (IsHanded cl (Hand n o j ∷ w) r a i found)
+        by_pass p q (IsHanded cl (Hand n o j ∷ w) r a i found)
         (λ same. by_test (Matches r a i) (IsHanded cl (Hand n o j ∷ w) r a i found)
         (λ match. new-handed r a i found match (subst (λ z. y.given z r a i ≡ Some found) same is))
         (λ differ. old (sym (given-before q r a i differ) ∙ is)))
@@ -224,7 +212,7 @@ module _ (cl : Cluster) (w : List Event) (claims claims' : ℕ → Option ℕ) (
           let h = k.handed_by r a i (earlier (Matches r a i) (was_handed r a i w) differ is) in
           (h.0, same_claims r ∙ h.1, (h.2.0, given-before h.0 r a i differ ∙ h.2.1)));
       given_is = given-handed;
-      since = λ q r is given. of_pass p q (((n == r) || handed_since r w) ≡ true)
+      since = λ q r is given. by_pass p q (((n == r) || handed_since r w) ≡ true)
           (λ same. by_test (n == r) (((n == r) || handed_since r w) ≡ true)
           (λ match. rw match refl)
           (λ differ. rw differ (k.since p r (sym (same-claimed p r) ∙ subst (λ z. y.has_claimed z r ≡ true) same is) (sym (changes.own_since r ∙ rw differ refl) ∙ subst (λ z. y.given_since z r ≡ true) same given))))
@@ -238,13 +226,13 @@ module _ (cl : Cluster) (w : List Event) (claims claims' : ℕ → Option ℕ) (
   -- the pass that has claimed a node sweeps for it
   module _ (p : ℕ) (v : Verdict) (own : x.has_claimed p v.node ≡ true) (verdict : IsVerdict cl v.node w v) (changes : ChangesHands p (swept v) x y) (same_claims : (m : ℕ) → claims' m ≡ claims m) where
     same-claimed' : (q r : ℕ) → y.has_claimed q r ≡ x.has_claimed q r
-    same-claimed' q r = kept-by_pass p (λ z. y.has_claimed z r) (λ z. x.has_claimed z r) (changes.own_claim r) (λ z other. changes.other_claim z r other) q
+    same-claimed' q r = same-by_pass p (λ z. y.has_claimed z r) (λ z. x.has_claimed z r) (changes.own_claim r) (λ z other. changes.other_claim z r other) q
 
     given-still' : (q m a i : ℕ) → y.given q m a i ≡ x.given q m a i
-    given-still' q m a i = kept-by_pass p (λ z. y.given z m a i) (λ z. x.given z m a i) (changes.own_given m a i) (λ z other. changes.other_given z m a i other) q
+    given-still' q m a i = same-by_pass p (λ z. y.given z m a i) (λ z. x.given z m a i) (changes.own_given m a i) (λ z other. changes.other_given z m a i other) q
 
     since-before : (q m : ℕ) → (v.node == m) ≡ false → y.given_since q m ≡ x.given_since q m
-    since-before q m differ = kept-by_pass p (λ z. y.given_since z m) (λ z. x.given_since z m) (changes.own_since m ∙ rw differ refl) (λ z other. changes.other_since z m other) q
+    since-before q m differ = same-by_pass p (λ z. y.given_since z m) (λ z. x.given_since z m) (changes.own_since m ∙ rw differ refl) (λ z other. changes.other_since z m other) q
 
     -- no other pass has claimed the node
     only-own : (q m : ℕ) → (v.node == m) ≡ true → (q == p) ≡ false → y.has_claimed q m ≡ true → ⊥
@@ -256,7 +244,7 @@ module _ (cl : Cluster) (w : List Event) (claims claims' : ℕ → Option ℕ) (
 
     -- the pass has been given nothing since
     swept-own : (q m : ℕ) → (v.node == m) ≡ true → y.has_claimed q m ≡ true → y.given_since q m ≡ true → ⊥
-    swept-own q m match is given = of_pass p q ⊥
+    swept-own q m match is given = by_pass p q ⊥
         (λ same. false≢true (sym (changes.own_since m ∙ rw match refl) ∙ subst (λ r. y.given_since r m ≡ true) same given))
         (λ other. only-own q m match other is)
 
@@ -292,13 +280,13 @@ module _ (cl : Cluster) (w : List Event) (claims claims' : ℕ → Option ℕ) (
         rw away refl
 
     own-stops_other : (q : ℕ) (a : Actor) → (v.node == a.node) ≡ false → y.has_stopped q a ≡ x.has_stopped q a
-    own-stops_other q a differ = kept-by_pass p (λ z. y.has_stopped z a) (λ z. x.has_stopped z a) (changes.own_stops a ∙ rw differ refl) (λ z other. changes.other_stops z a other) q
+    own-stops_other q a differ = same-by_pass p (λ z. y.has_stopped z a) (λ z. x.has_stopped z a) (changes.own_stops a ∙ rw differ refl) (λ z other. changes.other_stops z a other) q
 
     swept-stops : (q : ℕ) (a : Actor) → y.has_claimed q a.node ≡ true → y.has_stopped q a ≡ is_stopped cl a (Sweep v.node ∷ w)
     swept-stops q a is =
         let before = sym (same-claimed' q a.node) ∙ is in
         by_test (v.node == a.node) (y.has_stopped q a ≡ is_stopped cl a (Sweep v.node ∷ w))
-        (λ match. of_pass p q (y.has_stopped q a ≡ is_stopped cl a (Sweep v.node ∷ w))
+        (λ match. by_pass p q (y.has_stopped q a ≡ is_stopped cl a (Sweep v.node ∷ w))
         (λ same. subst (λ r. y.has_stopped r a ≡ is_stopped cl a (Sweep v.node ∷ w)) (sym same)
         (changes.own_stops a ∙ stopped-now a match (k.stops_are p a (subst (λ r. x.has_claimed r a.node ≡ true) same before))))
         (λ other. absurd (only-own q a.node match other is)))
@@ -308,7 +296,7 @@ module _ (cl : Cluster) (w : List Event) (claims claims' : ℕ → Option ℕ) (
     swept-own_stops q a is =
         let before = λ (b : x.has_stopped q a ≡ true). same-claimed' q a.node ∙ k.stops_own q a b in
         by_test (v.node == a.node) (y.has_claimed q a.node ≡ true)
-        (λ match. of_pass p q (y.has_claimed q a.node ≡ true)
+        (λ match. by_pass p q (y.has_claimed q a.node ≡ true)
         (λ same. same-claimed' q a.node ∙ subst (λ r. x.has_claimed r a.node ≡ true) (sym same) (subst (λ n. x.has_claimed p n ≡ true) (eqb-true v.node a.node match) own))
         (λ other. before (sym (changes.other_stops q a other) ∙ is)))
         (λ differ. before (sym (own-stops_other q a differ) ∙ is))

@@ -3,7 +3,7 @@ use Rattle.std.proofs.Common.{◌≡◌, ℕ, Bool, true, false, List, [], ◌�
 use Rattle.std.proofs.lemmas.Bool.{false≢true}
 use Rattle.crgc_ids.specs.Actor.{Actor, same_actor}
 use Rattle.history_model.specs.declared.events.Event.{Event}
-use Rattle.history_model.specs.declared.events.Event.TheVariants.{Wake, Take, Spawn, Rest, Flush, Publish, Window, Admit, Lose, Repeat, Crash, Remove, Hand, Sweep}
+use Rattle.history_model.specs.declared.events.Event.TheVariants.{Seed, Tie, Wake, Take, Spawn, Send, Drop, Retire, Rest, Flush, Publish, Window, Admit, Lose, Repeat, Crash, Remove, Hand, Sweep}
 use Rattle.history_model.specs.Cluster.{is_born, newborn}
 use Rattle.history_model.specs.Messages.{waiting}
 use Rattle.history_model.specs.State.{is_busy, is_root}
@@ -42,17 +42,16 @@ pub record IsStill (s : Scripted) (e : Event) (w : List Event) : Type 0 where
   pub born : (a : Actor) → is_born a (e ∷ w) ≡ is_born a w
 
 pub still : (s : Scripted) (e : Event) (w : List Event) → is_still e ≡ true → IsStill s e w
-still s (Flush a) w is = record { doing_is = λ x. refl; busy = λ x. refl; born = λ x. refl }
-still s (Publish n) w is = record { doing_is = λ x. refl; busy = λ x. refl; born = λ x. refl }
-still s (Window d f) w is = record { doing_is = λ x. refl; busy = λ x. refl; born = λ x. refl }
-still s (Admit f d k) w is = record { doing_is = λ x. refl; busy = λ x. refl; born = λ x. refl }
-still s (Lose f d k) w is = record { doing_is = λ x. refl; busy = λ x. refl; born = λ x. refl }
-still s (Repeat f d k) w is = record { doing_is = λ x. refl; busy = λ x. refl; born = λ x. refl }
-still s (Crash n) w is = record { doing_is = λ x. refl; busy = λ x. refl; born = λ x. refl }
-still s (Remove m n) w is = record { doing_is = λ x. refl; busy = λ x. refl; born = λ x. refl }
-still s (Hand m o k) w is = record { doing_is = λ x. refl; busy = λ x. refl; born = λ x. refl }
-still s (Sweep m) w is = record { doing_is = λ x. refl; busy = λ x. refl; born = λ x. refl }
-still s e w is = absurd (false≢true is)
+still s (Seed n) w is = absurd (false≢true is)
+still s (Tie a b) w is = absurd (false≢true is)
+still s (Wake a) w is = absurd (false≢true is)
+still s (Take a) w is = absurd (false≢true is)
+still s (Spawn a) w is = absurd (false≢true is)
+still s (Send a t refs) w is = absurd (false≢true is)
+still s (Drop a t) w is = absurd (false≢true is)
+still s (Retire a) w is = absurd (false≢true is)
+still s (Rest a) w is = absurd (false≢true is)
+still s e w is = record { doing_is = λ x. refl; busy = λ x. refl; born = λ x. refl }
 
 -- ---- a turn begins
 

@@ -1,7 +1,7 @@
 -- What each event keeps of the turns that passes have open, and of the names and behaviours of actors. All of it is said of plain
 -- functions: of each pass its open turn, of each actor its names and its behaviour.
 use Rattle.std.proofs.Common.{◌≡◌, ◌==◌, ℕ, true, false, List, [], ◌∷◌, ◌++◌, Option, Some, None, option_to_list, refl, sym, ◌∙◌, ap, subst, if◌then◌else◌}
-use Rattle.std.proofs.lemmas.Bool.{eqb-true, false≢true, false_from_ne_true}
+use Rattle.std.proofs.lemmas.Bool.{false≢true, false_from_ne_true}
 use Rattle.std.proofs.lemmas.Option.{none-some, same_Some}
 use Rattle.crgc_ids.specs.Actor.{Actor, same_actor}
 use Rattle.history_model.specs.declared.events.Event.{Event}
@@ -22,6 +22,7 @@ use Rattle.operation_model.specs.Deeds.{Begun, acted, rested}
 use Rattle.operation_model.specs.Turns.{Open, fresh, turn_left, with_act}
 use Rattle.operation_model.proofs.Frames.{IsBeginning, IsNoChild, IsStill, act-busy, act-doing, act-others, child-doing, child_of, rest-busy, rest-doing, rest-others}
 use Rattle.operation_model.specs.Kept.{IsReached, IsRunning, KeepsTurns, names_of, turn_actor}
+use Rattle.operation_model.proofs.Passes.{by_actor, by_pass}
 use Rattle.operation_model.proofs.Reached.{HasChild, reached-next, reached-start}
 
 -- only that pass's turn changes
@@ -34,14 +35,6 @@ running-same s e w t same busy r = record {
   busy = busy ∙ r.busy;
   reached = subst (λ (d : Doing). IsReached (turn_left s.code t.begun) t.acts t.children d.turn) (sym same) r.reached;
 }
-
--- by whether it is that pass
-by_pass : (p q : ℕ) (G : Type 0) → (q ≡ p → G) → ((q == p) ≡ false → G) → G
-by_pass p q G own other = elim (q == p) as (λ v. (q == p) ≡ v → G) [ true ↦ λ same. own (eqb-true q p same) | false ↦ λ differ. other differ ] refl
-
--- by whether it is that actor
-by_actor : (a c : Actor) (G : Type 0) → (a ≡ c → G) → (same_actor a c ≡ false → G) → G
-by_actor a c G own other = elim (same_actor a c) as (λ v. same_actor a c ≡ v → G) [ true ↦ λ same. own (same_actor-equal a c same) | false ↦ λ differ. other differ ] refl
 
 -- who is busy is none that is not
 other-busy : (a c : Actor) (w : List Event) → is_busy a w ≡ true → is_busy c w ≡ false → same_actor a c ≡ false

@@ -1,6 +1,6 @@
 -- What is kept at each call of a course, and what a call changes of it.
 use Rattle.std.proofs.Common.{◌≡◌, ◌==◌, ◌||◌, ◌++◌, ℕ, Bool, true, false, cond, List, [], ◌∷◌, Option, Some, None, refl, sym, ◌∙◌, ap}
-use Rattle.std.proofs.lemmas.Bool.{eqb-true, false≢true}
+use Rattle.std.proofs.lemmas.Bool.{false≢true}
 use Rattle.crgc_ids.specs.Actor.{Actor}
 use Rattle.behaviour_lang.specs.Bound.{Names}
 use Rattle.turn_lock.specs.History.{calls_of, entry}
@@ -20,6 +20,7 @@ use Rattle.operation_model.specs.Openings.{Opening}
 use Rattle.operation_model.specs.Turns.{Calls, Open, open_turn, turn_after}
 use Rattle.operation_model.proofs.Claims.{ChangesHands, HandsNothing, hands-event, hands-same}
 use Rattle.operation_model.proofs.Keeping.{ChangesTurn}
+use Rattle.operation_model.proofs.Passes.{same-by_pass}
 
 -- an operation may begin with the event
 abbrev pub Goes : Scripted → Event → List Event → Type 0
@@ -99,25 +100,17 @@ module _ (p : ℕ) (op : Op) (r : Reply) (h : Calls) where
     other_stops = λ q a differ. ap (λ calls. own_stopped calls a) (other-calls q differ);
   }
 
-  -- by whether it is that pass
-  same-by_pass : {A : Type 0} (f g : ℕ → A) → f p ≡ g p → ((q : ℕ) → (q == p) ≡ false → f q ≡ g q) → (q : ℕ) → f q ≡ g q
-  same-by_pass f g own others q =
-      elim (q == p) as (λ v. (q == p) ≡ v → f q ≡ g q) [
-        | true ↦ λ same. (let one = eqb-true q p same in ap f one ∙ own ∙ ap g (sym one))
-        | false ↦ λ differ. others q differ
-      ] refl
-
   pub same-turns : LeavesTurns (deed_of op r) → (q : ℕ) → open_turns (entry p op r ∷ h) q ≡ open_turns h q
-  same-turns leaves = same-by_pass (open_turns (entry p op r ∷ h)) (open_turns h) (changes-turn.own ∙ leaves.turn (open_turns h p)) changes-turn.others
+  same-turns leaves = same-by_pass p (open_turns (entry p op r ∷ h)) (open_turns h) (changes-turn.own ∙ leaves.turn (open_turns h p)) changes-turn.others
 
   pub same-hands : (o : Opening) (w : List Event) → LeavesHands (deed_of op r) → KeepsHands (cluster_of o.script) w (claim_at o h) (hands_of h) → KeepsHands (cluster_of o.script) w (claim_at o (entry p op r ∷ h)) (hands_of (entry p op r ∷ h))
   same-hands o w leaves k =
       hands-same (cluster_of o.script) w (claim_at o h) (claim_at o (entry p op r ∷ h)) (hands_of h) (hands_of (entry p op r ∷ h)) k
       (λ n. leaves.claim p n (claim_at o h n))
-      (λ q n. same-by_pass (λ x. has_claimed n (calls_of x (entry p op r ∷ h))) (λ x. has_claimed n (calls_of x h)) (changes-hands.own_claim n ∙ ap (λ v. v || has_claimed n (calls_of p h)) (leaves.claim_of n)) (λ x differ. changes-hands.other_claim x n differ) q)
-      (λ q n a j. same-by_pass (λ x. given n a j (calls_of x (entry p op r ∷ h))) (λ x. given n a j (calls_of x h)) (changes-hands.own_given n a j ∙ leaves.given n a j (given n a j (calls_of p h))) (λ x differ. changes-hands.other_given x n a j differ) q)
-      (λ q n. same-by_pass (λ x. given_since n (calls_of x (entry p op r ∷ h))) (λ x. given_since n (calls_of x h)) (changes-hands.own_since n ∙ leaves.since n (given_since n (calls_of p h))) (λ x differ. changes-hands.other_since x n differ) q)
-      (λ q a. same-by_pass (λ x. own_stopped (calls_of x (entry p op r ∷ h)) a) (λ x. own_stopped (calls_of x h) a) (changes-hands.own_stops a ∙ ap (λ v. v || own_stopped (calls_of p h) a) (leaves.stops a)) (λ x differ. changes-hands.other_stops x a differ) q)
+      (λ q n. same-by_pass p (λ x. has_claimed n (calls_of x (entry p op r ∷ h))) (λ x. has_claimed n (calls_of x h)) (changes-hands.own_claim n ∙ ap (λ v. v || has_claimed n (calls_of p h)) (leaves.claim_of n)) (λ x differ. changes-hands.other_claim x n differ) q)
+      (λ q n a j. same-by_pass p (λ x. given n a j (calls_of x (entry p op r ∷ h))) (λ x. given n a j (calls_of x h)) (changes-hands.own_given n a j ∙ leaves.given n a j (given n a j (calls_of p h))) (λ x differ. changes-hands.other_given x n a j differ) q)
+      (λ q n. same-by_pass p (λ x. given_since n (calls_of x (entry p op r ∷ h))) (λ x. given_since n (calls_of x h)) (changes-hands.own_since n ∙ leaves.since n (given_since n (calls_of p h))) (λ x differ. changes-hands.other_since x n differ) q)
+      (λ q a. same-by_pass p (λ x. own_stopped (calls_of x (entry p op r ∷ h)) a) (λ x. own_stopped (calls_of x h) a) (changes-hands.own_stops a ∙ ap (λ v. v || own_stopped (calls_of p h) a) (leaves.stops a)) (λ x differ. changes-hands.other_stops x a differ) q)
       (ap (λ vs. vs ++ verdicts h) leaves.verdict)
 
   -- claims and hands, where an event hands nothing and sweeps nothing

@@ -1,6 +1,7 @@
 pub mod Grows
 pub mod Reached
 pub mod Frames
+pub mod Passes
 pub mod Keeping
 pub mod Claims
 pub mod Verdicts

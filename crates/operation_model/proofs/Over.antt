@@ -80,16 +80,24 @@ record IsCalm (s : Scripted) (e : Event) (w : List Event) : Type 0 where
   sends_nothing : sent_by e ≡ []
 
 calm : (s : Scripted) (e : Event) (w : List Event) → is_calm e ≡ true → IsCalm s e w
-calm s (events.Flush a) w is = record { still_event = refl; none_due = refl; same_begun = refl; same_planned = refl; same_up = λ n. refl; sends_nothing = refl }
-calm s (events.Publish n) w is = record { still_event = refl; none_due = refl; same_begun = refl; same_planned = refl; same_up = λ n. refl; sends_nothing = refl }
-calm s (events.Window d f) w is = record { still_event = refl; none_due = refl; same_begun = refl; same_planned = refl; same_up = λ n. refl; sends_nothing = refl }
-calm s (events.Admit f d k) w is = record { still_event = refl; none_due = refl; same_begun = refl; same_planned = refl; same_up = λ n. refl; sends_nothing = refl }
-calm s (events.Lose f d k) w is = record { still_event = refl; none_due = refl; same_begun = refl; same_planned = refl; same_up = λ n. refl; sends_nothing = refl }
-calm s (events.Repeat f d k) w is = record { still_event = refl; none_due = refl; same_begun = refl; same_planned = refl; same_up = λ n. refl; sends_nothing = refl }
-calm s (events.Remove m n) w is = record { still_event = refl; none_due = refl; same_begun = refl; same_planned = refl; same_up = λ n. refl; sends_nothing = refl }
-calm s (events.Hand m o k) w is = record { still_event = refl; none_due = refl; same_begun = refl; same_planned = refl; same_up = λ n. refl; sends_nothing = refl }
-calm s (events.Sweep m) w is = record { still_event = refl; none_due = refl; same_begun = refl; same_planned = refl; same_up = λ n. refl; sends_nothing = refl }
-calm s e w is = absurd (false≢true is)
+calm s (events.Seed n) w is = absurd (false≢true is)
+calm s (events.Tie a b) w is = absurd (false≢true is)
+calm s (events.Wake a) w is = absurd (false≢true is)
+calm s (events.Take a) w is = absurd (false≢true is)
+calm s (events.Spawn a) w is = absurd (false≢true is)
+calm s (events.Send a t refs) w is = absurd (false≢true is)
+calm s (events.Drop a t) w is = absurd (false≢true is)
+calm s (events.Retire a) w is = absurd (false≢true is)
+calm s (events.Rest a) w is = absurd (false≢true is)
+calm s (events.Crash n) w is = absurd (false≢true is)
+calm s e w is = record {
+  still_event = refl;
+  none_due = refl;
+  same_begun = refl;
+  same_planned = refl;
+  same_up = λ n. refl;
+  sends_nothing = refl;
+}
 
 calm-over : (s : Scripted) (e : Event) (w : List Event) → IsLegal (cluster_of s) (e ∷ w) → IsCalm s e w → IsOver s w → IsOver s (e ∷ w)
 calm-over s e w legal c over =
