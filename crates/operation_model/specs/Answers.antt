@@ -23,6 +23,7 @@ use Rattle.run_model.specs.Doing.{cluster_of, first_refs}
 use Rattle.run_model.specs.Planned.{actors, is_possible, is_within_budget, next_wake, planned}
 use Rattle.operation_model.specs.declared.operations.Op.{Op}
 use Rattle.operation_model.specs.declared.operations.Op.TheVariants as ops
+use Rattle.operation_model.specs.declared.operations.TheConstants.{ACTORS_PER_REFILL}
 use Rattle.operation_model.specs.declared.replies.Halt.{Halt}
 use Rattle.operation_model.specs.declared.replies.Halt.TheVariants.{Limit, Memory}
 use Rattle.operation_model.specs.declared.replies.Reply.{Reply}
@@ -132,10 +133,6 @@ act_reply a (acts.Send t refs) w = Done
 act_reply a (acts.Drop t) w = Done
 act_reply a acts.Retire w = Done
 
--- how many actors a refill gives at most
-abbrev pub refill : ℕ
-refill = 32
-
 -- the answer to an operation that is not refused, where w is the world
 abbrev pub IsGranted : Opening → Calls → Op → List Event → Reply → Type 0
 IsGranted o h (ops.Claim n) w r = r ≡ Done
@@ -155,7 +152,7 @@ IsGranted o h (ops.Hand n x k) w r =
     × (r ≡ Bytes bytes) × (slice_get (stream (cluster_of o.script) x w) k ≡ Some m) × Spells x bytes m
 IsGranted o h (ops.Sweep v) w r = r ≡ Done
 IsGranted o h ops.GiveUp w r = ⊥
-IsGranted o h (ops.Refill skip) w r = r ≡ Ids (take refill (drop skip (ready o.script w)))
+IsGranted o h (ops.Refill skip) w r = r ≡ Ids (take ACTORS_PER_REFILL (drop skip (ready o.script w)))
 IsGranted o h ops.Finished w r = r ≡ AllDone
 
 -- ---- events

@@ -46,17 +46,18 @@ pub record IsRunning (s : Scripted) (w : List Event) (t : Open) : Type 0 where
   pub busy : is_busy (turn_actor t) w ≡ true
   pub reached : (let d = doing s (turn_actor t) w in IsReached (turn_left s.code t.begun) t.acts t.children d.turn)
 
--- each open turn runs in the world, and no two passes have one actor's; the names of who is in no turn, and all behaviours, are
--- those of the world
-pub record KeepsTurns (s : Scripted) (w : List Event) (turns : ℕ → Option Open) (names : Actor → Names) (behaviours : Actor → ℕ) : Type 0 where
-  pub running : (p : ℕ) (t : Open) → turns p ≡ Some t → IsRunning s w t
-  pub apart : (p q : ℕ) (t u : Open) → turns p ≡ Some t → turns q ≡ Some u → turn_actor t ≡ turn_actor u → p ≡ q
-  pub names_are : (a : Actor) → is_born a w ≡ true → is_busy a w ≡ false → names a ≡ names_of (doing s a w)
-  pub behaviours_are : (a : Actor) → is_born a w ≡ true → (let d = doing s a w in behaviours a ≡ d.behaviour)
+module _ (s : Scripted) (w : List Event) (turns : ℕ → Option Open) where
+  -- each open turn runs in the world, and no two passes have one actor's; the names of who is in no turn, and all behaviours, are
+  -- those of the world
+  pub record KeepsTurns (names : Actor → Names) (behaviours : Actor → ℕ) : Type 0 where
+    pub running : (p : ℕ) (t : Open) → turns p ≡ Some t → IsRunning s w t
+    pub apart : (p q : ℕ) (t u : Open) → turns p ≡ Some t → turns q ≡ Some u → turn_actor t ≡ turn_actor u → p ≡ q
+    pub names_are : (a : Actor) → is_born a w ≡ true → is_busy a w ≡ false → names a ≡ names_of (doing s a w)
+    pub behaviours_are : (a : Actor) → is_born a w ≡ true → (let d = doing s a w in behaviours a ≡ d.behaviour)
 
 -- ---- claims and hands
 
--- of each pass: whether it has claimed a node; the bytes that it was given for it; whether it was given any since it swept; and
+-- of each pass: whether it has claimed a node, the bytes that it was given for it, whether it was given any since it swept, and
 -- whether its sweeps have stopped an actor; and the verdicts of the sweeps of all passes, the last one first
 pub record Hands : Type 0 where
   pub has_claimed : ℕ → ℕ → Bool
@@ -77,7 +78,8 @@ pub record IsHanded (cl : Cluster) (w : List Event) (n o k : ℕ) (bytes : List 
 -- the actors of a node that have been stopped are those that this pass has stopped. The verdicts are those of the sweeps
 pub record KeepsHands (cl : Cluster) (w : List Event) (claims : ℕ → Option ℕ) (x : Hands) : Type 0 where
   pub claimed_by : (p n : ℕ) → x.has_claimed p n ≡ true → claims n ≡ Some p
-  pub handed_by : (n o k : ℕ) → was_handed n o k w ≡ true → (p : ℕ) × (claims n ≡ Some p) × ((bytes : List ℕ) × (x.given p n o k ≡ Some bytes))
+  pub handed_by : (n o k : ℕ) → was_handed n o k w ≡ true
+      → (p : ℕ) × (claims n ≡ Some p) × ((bytes : List ℕ) × (x.given p n o k ≡ Some bytes))
   pub given_is : (p n o k : ℕ) (bytes : List ℕ) → x.given p n o k ≡ Some bytes → IsHanded cl w n o k bytes
   pub since : (p n : ℕ) → x.has_claimed p n ≡ true → x.given_since p n ≡ true → handed_since n w ≡ true
   pub stops_are : (p : ℕ) (a : Actor) → x.has_claimed p a.node ≡ true → x.has_stopped p a ≡ is_stopped cl a w
@@ -100,13 +102,14 @@ hands_of h = record {
   verdicts = verdicts h;
 }
 
--- the world is a run in which no crash is due; and what the calls tell of turns, names, behaviours, claims and hands is so in
--- the world
-pub record IsKeptIn (s : Scripted) (w : List Event) (turns : ℕ → Option Open) (names : Actor → Names) (behaviours : Actor → ℕ) (claims : ℕ → Option ℕ) (x : Hands) : Type 0 where
-  pub run : IsRun s w
-  pub none_due : crash_due s w ≡ None
-  pub keeps : KeepsTurns s w turns names behaviours
-  pub hands : KeepsHands (cluster_of s) w claims x
+module _ (s : Scripted) (w : List Event) (turns : ℕ → Option Open) where
+  -- the world is a run in which no crash is due; and what the calls tell of turns, names, behaviours, claims and hands is so in
+  -- the world
+  pub record IsKeptIn (names : Actor → Names) (behaviours : Actor → ℕ) (claims : ℕ → Option ℕ) (x : Hands) : Type 0 where
+    pub run : IsRun s w
+    pub none_due : crash_due s w ≡ None
+    pub keeps : KeepsTurns s w turns names behaviours
+    pub hands : KeepsHands (cluster_of s) w claims x
 
 abbrev pub IsKept : Opening → Calls → Type 0
 IsKept o h = IsKeptIn o.script (world o h) (open_turns h) (names_at o h) (behaviour_at o h) (claim_at o h) (hands_of h)

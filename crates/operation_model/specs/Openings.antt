@@ -20,12 +20,13 @@ pub record Opening : Type 0 where
   pub claims : ℕ → Option ℕ
   pub halt : Option Halt
 
--- the cluster that a script makes, which stays in its ranges: of each seed it has the behaviour of its row and the names of its ties; no node is claimed,
--- and it has not halted
+-- the cluster that a script makes, which stays in its ranges: of each seed it has the behaviour of its row and the names of its
+-- ties; no node is claimed, and it has not halted
 pub record IsNew (o : Opening) : Type 0 where
   pub ranges : is_in_ranges o.script ≡ true
   pub past : o.past ≡ beginning o.script
-  pub behaviours : (a : Actor) → is_born a o.past ≡ true → o.behaviours a ≡ (let s = o.script in behaviour_of (row_of s.seeds [] a))
+  pub behaviours : (a : Actor) → is_born a o.past ≡ true
+      → o.behaviours a ≡ (let s = o.script in behaviour_of (row_of s.seeds [] a))
   pub names : (a : Actor) → is_born a o.past ≡ true → o.names a ≡ first_names o.script a
   pub claims : (n : ℕ) → o.claims n ≡ None
   pub halt : o.halt ≡ None
@@ -34,5 +35,6 @@ pub record IsNew (o : Opening) : Type 0 where
 -- is held, and of each actor it has the behaviour, and in no turn the names, that are its in the history
 pub record IsSoundOpening (o : Opening) : Type 0 where
   pub sound : IsSound o.script o.past
-  pub names : (a : Actor) → is_born a o.past ≡ true → is_busy a o.past ≡ false → (let d = doing o.script a o.past in let l = d.turn in o.names a ≡ l.names)
+  pub names : (a : Actor) → is_born a o.past ≡ true → is_busy a o.past ≡ false
+      → (let d = doing o.script a o.past in let l = d.turn in o.names a ≡ l.names)
   pub behaviours : (a : Actor) → is_born a o.past ≡ true → (let d = doing o.script a o.past in o.behaviours a ≡ d.behaviour)

@@ -6,5 +6,5 @@ pub mod laws;
 mod operations;
 mod replies;
 
-pub use operations::Op;
+pub use operations::{ACTORS_PER_REFILL, Op};
 pub use replies::{Halt, Reply, Why};

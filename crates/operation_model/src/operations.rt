@@ -3,6 +3,9 @@ use behaviour_lang::{Act, Locals};
 use crgc_ids::{ActorId, NodeId};
 use history_model::Verdict;
 
+/// A refill tells of so many actors at most.
+pub const ACTORS_PER_REFILL: usize = 32;
+
 /// One operation on a cluster, which is one step of its history.
 #[derive(Debug, Drop)]
 pub enum Op {
@@ -59,7 +62,7 @@ pub enum Op {
     },
     /// The pass found no memory: the cluster halts.
     GiveUp,
-    /// At most 32 of the actors that may take a message, without the first so many.
+    /// The first [`ACTORS_PER_REFILL`] of the actors that may take a message, without so many before them.
     Refill {
         skip: u32,
     },
