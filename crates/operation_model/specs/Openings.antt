@@ -7,7 +7,7 @@ use Rattle.behaviour_lang.specs.Bound.{Names}
 use Rattle.script_reader.specs.Valid.{Scripted}
 use Rattle.history_model.specs.State.{is_busy}
 use Rattle.run_model.specs.Doing.{beginning, behaviour_of, doing, first_names, is_in_ranges, row_of}
-use Rattle.run_model.proofs.Runs.{IsSound}
+use Rattle.run_model.specs.Sound.{IsSound}
 use Rattle.operation_model.specs.declared.replies.Halt.{Halt}
 
 -- a cluster as a lock is made with it: its script; its history; the behaviour and the names of each actor; which pass has

@@ -12,7 +12,7 @@ ghost use Rattle.behaviour_lang.specs.Steps.{Left};
 ghost use Rattle.run_model.specs.Doing.{cluster_of, event_of};
 ghost use Rattle.run_model.specs.Follows.{CouldPass, IsRun, is_over};
 ghost use Rattle.run_model.specs.Planned.{crash_due};
-ghost use Rattle.run_model.proofs.Runs.{IsSound};
+ghost use Rattle.run_model.specs.Sound.{IsSound};
 ghost use Rattle.operation_model.specs.Answers.{IsCourse};
 ghost use Rattle.operation_model.specs.Courses.{behaviour_at, halt_at, names_at, verdicts, was_all_done, world};
 ghost use Rattle.operation_model.specs.Fits.{Fits};
