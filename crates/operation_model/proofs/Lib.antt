@@ -10,6 +10,7 @@ pub mod GrantedTurns
 pub mod Granted
 pub mod CourseLaws
 pub mod SoundCourses
+pub mod LegalGrants
 pub mod Over
 pub mod OverCourses
 pub mod StillFits

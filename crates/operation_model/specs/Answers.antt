@@ -157,6 +157,11 @@ IsGranted o h ops.Finished w r = r ≡ AllDone
 
 -- ---- events
 
+-- no rule refuses the events, one after another
+abbrev pub AreLegal : Scripted → List Event → List Event → Type 0
+AreLegal s [] w = Unit {0}
+AreLegal s (e ∷ es) w = (refusal (cluster_of s) e w ≡ None) × AreLegal s es (e ∷ w)
+
 -- the events follow one after another: no rule refuses them, and they pass no limit
 abbrev pub MayFollow : Scripted → List Event → List Event → Type 0
 MayFollow s [] w = Unit {0}

@@ -1,5 +1,5 @@
 //! The laws of the operations. Each function does nothing, and its contract is the law.
-ghost use Rattle.std.specs.Prelude.{◌≡◌, ◌++◌, ℕ, true, List, [], Some, None};
+ghost use Rattle.std.specs.Prelude.{◌≡◌, ◌⊎◌, ◌++◌, ℕ, true, List, [], Some, None};
 ghost use Rattle.crgc_ids.specs.Actor.{Actor};
 ghost use Rattle.crgc_ids.specs.declared.Which.{Which};
 ghost use Rattle.turn_lock.specs.History.{calls_of};
@@ -13,8 +13,9 @@ ghost use Rattle.run_model.specs.Doing.{cluster_of, event_of};
 ghost use Rattle.run_model.specs.Follows.{CouldPass, IsRun, is_over};
 ghost use Rattle.run_model.specs.Planned.{crash_due};
 ghost use Rattle.run_model.specs.Sound.{IsSound};
-ghost use Rattle.operation_model.specs.Answers.{IsCourse};
-ghost use Rattle.operation_model.specs.Courses.{behaviour_at, halt_at, names_at, verdicts, was_all_done, world};
+ghost use Rattle.operation_model.specs.Answers.{AreLegal, IsAnswer, IsCourse, IsGranted, IsMade, WouldPass, refused};
+ghost use Rattle.operation_model.specs.Courses.{behaviour_at, claim_at, events_by, halt_at, names_at, verdicts, was_all_done, world};
+ghost use Rattle.operation_model.specs.Deeds.{deed_of};
 ghost use Rattle.operation_model.specs.Fits.{Fits};
 ghost use Rattle.operation_model.specs.Kept.{IsKept, KeepsTurns, open_turns};
 ghost use Rattle.operation_model.specs.Openings.{IsNew, IsSoundOpening, Opening};
@@ -22,6 +23,7 @@ ghost use Rattle.operation_model.specs.Turns.{Calls, Grows};
 ghost use Rattle.operation_model.specs.declared.operations.Op.{Op};
 ghost use Rattle.operation_model.specs.declared.operations.Op.TheVariants.{Act, Rest};
 ghost use Rattle.operation_model.specs.declared.replies.Halt.TheVariants.{Limit};
+ghost use Rattle.operation_model.specs.declared.replies.Reply.{Reply};
 
 /// With more children a turn begins with the acts that it has without them. So the acts of a turn that a pass has open stay the
 /// beginning of the whole turn while its children are born.
@@ -49,6 +51,16 @@ pub fn a_course_stays_sound()
     ensures rest { (o : Opening) (h : Calls) (a : Actor) (locals : List (List ℕ × Actor)) (pass : ℕ) → IsSoundOpening o
         → IsCourse o h → Fits o h (Rest a locals) pass → is_up a.node (world o h) ≡ true
         → refusal (cluster_of o.script) (Rested a) (world o h) ≡ None }
+{}
+
+/// In a lock that was made with a sound cluster no rule refuses the events of an operation that fits and is granted: neither the
+/// first one nor what is added to it. So they follow, or one of them would pass a limit; there is no third case.
+pub fn what_is_granted_is_legal()
+    ensures legal { (o : Opening) (h : Calls) (op : Op) (r : Reply) (pass : ℕ) → IsSoundOpening o → IsCourse o h → Fits o h op pass
+        → refused o.script (claim_at o h) op (world o h) ≡ None → IsGranted o h op (world o h) r
+        → AreLegal o.script (events_by o.script (deed_of op r) (world o h)) (world o h) }
+    ensures either { (o : Opening) (h : Calls) (op : Op) (r : Reply) (pass : ℕ) → IsSoundOpening o → IsCourse o h → Fits o h op pass
+        → IsAnswer o h op r → IsMade o h op r ⊎ ((limit : Which) × WouldPass o h op limit) }
 {}
 
 /// In a lock that was made with the cluster of a script, the world's history after each course of calls is a run of the script,
