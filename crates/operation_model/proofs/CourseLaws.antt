@@ -13,7 +13,8 @@ use Rattle.history_model.specs.Folds.{was_handed}
 use Rattle.history_model.specs.Legal.{refusal}
 use Rattle.history_model.specs.Rows.{onto}
 use Rattle.history_model.proofs.Basics.{eqb-refl}
-use Rattle.history_model.specs.Sweeps.{is_stopped}
+use Rattle.history_model.specs.Sweeps.{IsVerdict, is_stopped}
+use Rattle.history_model.specs.declared.records.Verdict.{Verdict}
 use Rattle.journal_model.specs.Verdicts.{AreVerdicts}
 use Rattle.behaviour_lang.specs.Bound.{Names}
 use Rattle.behaviour_lang.specs.declared.act.Act.{Act}
@@ -43,6 +44,7 @@ use Rattle.operation_model.proofs.Claims.{hands-event, hands-nothing, is_of_coll
 use Rattle.operation_model.proofs.Frames.{is_still, still}
 use Rattle.operation_model.proofs.Granted.{granted}
 use Rattle.operation_model.proofs.Keeping.{keeps-same, keeps-still}
+use Rattle.operation_model.proofs.Verdicts.{verdict-is}
 use Rattle.operation_model.proofs.Kept.{IsStep, LeavesHands, LeavesTurns, leaves-hands, leaves-turns, same-hands, same-turns}
 
 -- ---- what does nothing
@@ -348,3 +350,9 @@ module _ (o : Opening) (new : IsNew o) where
       by_halt : (halt_at o h ≡ Some (Limit limit) → CouldPass S (world o h) limit) → (v : Option Halt) → halt_at o h ≡ v → IsReply o h v e.op e.reply → CouldPass S (world o (e ∷ h)) limit
       by_halt earlier (Some why) is reply = stays (halted-nothing why reply) (earlier (is ∙ ap Some (why-is (Some why) why is reply)))
       by_halt earlier None is reply = answered is reply
+
+-- the verdict that fits is the verdict of the sweep
+pub fitting-verdict : (o : Opening) (h : Calls) (v : Verdict) (p : ℕ) → IsCourse o h → Fits o h (ops.Sweep v) p → IsVerdict (cluster_of o.script) v.node (world o h) v
+fitting-verdict o h v p course fit =
+    let k = kept-course o fit.0 h course in
+    verdict-is (cluster_of o.script) (world o h) (claim_at o h) h k.hands (kept-sound o fit.0 h k).0 p v fit.1 fit.3

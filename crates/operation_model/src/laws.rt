@@ -6,6 +6,8 @@ ghost use Rattle.turn_lock.specs.History.{calls_of};
 ghost use Rattle.history_model.specs.declared.events.Event.TheVariants.{Rest as Rested};
 ghost use Rattle.history_model.specs.Legal.{IsLegal, refusal};
 ghost use Rattle.history_model.specs.State.{is_up};
+ghost use Rattle.history_model.specs.Sweeps.{IsVerdict};
+ghost use Rattle.history_model.specs.declared.records.Verdict.{Verdict};
 ghost use Rattle.behaviour_lang.specs.declared.act.Act.{Act as Acts};
 ghost use Rattle.journal_model.specs.Verdicts.{AreVerdicts};
 ghost use Rattle.behaviour_lang.specs.Steps.{Left};
@@ -21,7 +23,7 @@ ghost use Rattle.operation_model.specs.Kept.{IsKept, KeepsTurns, open_turns};
 ghost use Rattle.operation_model.specs.Openings.{IsNew, IsSoundOpening, Opening};
 ghost use Rattle.operation_model.specs.Turns.{Calls, Grows};
 ghost use Rattle.operation_model.specs.declared.operations.Op.{Op};
-ghost use Rattle.operation_model.specs.declared.operations.Op.TheVariants.{Act, Rest};
+ghost use Rattle.operation_model.specs.declared.operations.Op.TheVariants.{Act, Rest, Sweep};
 ghost use Rattle.operation_model.specs.declared.replies.Halt.TheVariants.{Limit};
 ghost use Rattle.operation_model.specs.declared.replies.Reply.{Reply};
 
@@ -76,6 +78,12 @@ pub fn a_course_is_a_run()
     ensures verdicts { (o : Opening) (h : Calls) → IsNew o → IsCourse o h
         → AreVerdicts (cluster_of o.script) (world o h) (verdicts h) }
     ensures kept { (o : Opening) (h : Calls) → IsNew o → IsCourse o h → IsKept o h }
+{}
+
+/// The verdict that fits is the verdict of the sweep, in the world as it is then.
+pub fn a_verdict_that_fits_is_the_sweeps()
+    ensures { (o : Opening) (h : Calls) (v : Verdict) (pass : ℕ) → IsCourse o h → Fits o h (Sweep v) pass
+        → IsVerdict (cluster_of o.script) v.node (world o h) v }
 {}
 
 /// Once a call was answered that nothing is left to do, the run is over, and stays so whatever calls follow.
