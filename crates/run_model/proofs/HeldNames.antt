@@ -26,19 +26,7 @@ use Rattle.behaviour_lang.specs.declared.act.List.TheVariants as lists
 use Rattle.run_model.specs.Doing.{Doing, acts_on, as_child, begins, cluster_of, doing, first_refs, own_name}
 use Rattle.run_model.proofs.NextLaws.{naming, naming-bind, one_if}
 use Rattle.run_model.proofs.TurnLaws.{act-fewer, act-root, birth-fewer, drop-fewer, retire-root}
-
--- one where t is a's parent: the reference to it that belongs to no name
-abbrev pub parent_of : Actor → Actor → List Event → ℕ
-parent_of a t h = one_if (is_parent t a h)
-
--- the names say no more than a holds, and a is a root where its turn says so
-pub record HoldsNames (cl : Cluster) (a : Actor) (l : Left) (h : List Event) : Type 0 where
-  pub held : (t : Actor) → naming t l.names + parent_of a t h ≤ held cl a t h
-  pub root : l.root ≡ true → is_root a h ≡ true
-
--- so it is for every actor that was born
-abbrev pub AllHold : Scripted → List Event → Type 0
-AllHold s h = (a : Actor) → IsTrue (is_born a h) → (let d = doing s a h in HoldsNames (cluster_of s) a d.turn h)
+pub use Rattle.run_model.specs.Sound.{AllHold, HoldsNames, parent_of}
 
 -- acts are those that are due; no seed or tie comes any more
 abbrev pub IsDue : Scripted → Event → List Event → Type 0

@@ -4,7 +4,6 @@ use mathlib.Core.Bool.{true≢false}
 use Rattle.std.proofs.lemmas.Option.{none-some, same_Some}
 use Rattle.crgc_ids.specs.Actor.{Actor, same_actor}
 use Rattle.crgc_ids.specs.Members.{IsAmong}
-use Rattle.history_model.specs.Tally.{tally}
 use Rattle.history_model.proofs.Basics.{same_actor-refl}
 use Rattle.behaviour_lang.specs.Bound.{Names, means, bound, without, bind, is_before, is_message, first_message, past_first_message}
 use Rattle.behaviour_lang.specs.Turn.{drop_of, all_there, bound_all, send_of, drop_for_keep, kept}
@@ -17,14 +16,7 @@ use Rattle.behaviour_lang.specs.declared.instr.Instr.TheVariants.{Spawn, Send, D
 use Rattle.behaviour_lang.specs.declared.instr.Name.{Name}
 use Rattle.behaviour_lang.specs.declared.instr.Name.TheVariants.{Message, Local}
 use Rattle.behaviour_lang.proofs.NameLaws.{bound-message}
-
--- how many names are bound to t
-abbrev pub naming : Actor → Names → ℕ
-naming t names = tally (λ (row : Name × Actor). same_actor row.1 t) names
-
--- one, where it is so
-abbrev pub one_if : Bool → ℕ
-one_if b = if b then 1 else 0
+pub use Rattle.run_model.specs.Sound.{naming, one_if}
 
 module _ (t : Actor) where
   -- a name that is bound names its actor, and taking it away leaves one name less

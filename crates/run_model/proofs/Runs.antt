@@ -17,7 +17,8 @@ use Rattle.run_model.specs.Planned.{crash_due}
 use Rattle.run_model.specs.Follows.{IsRun, are_allowed, fits, is_allowed, is_on_time, same_actors, same_event}
 use Rattle.run_model.proofs.ActsLegal.{due-legal}
 use Rattle.run_model.proofs.Beginnings.{beginning-holds}
-use Rattle.run_model.proofs.HeldNames.{AllHold, IsDue, holds-next}
+use Rattle.run_model.proofs.HeldNames.{IsDue, holds-next}
+pub use Rattle.run_model.specs.Sound.{IsSound}
 
 -- ---- events that test the same
 
@@ -87,10 +88,6 @@ allowed-fits s e p allowed =
     no-rule : (r : Option Rule) → is_none r ≡ true → r ≡ None
     no-rule None e = refl
     no-rule (Some r) e = absurd (false≢true e)
-
--- a legal history in which names say no more than is held
-abbrev pub IsSound : Scripted → List Event → Type 0
-IsSound s h = IsLegal (cluster_of s) h × AllHold s h
 
 -- an event that is legal and due keeps it
 pub sound-next : (s : Scripted) (e : Event) (p : List Event) → IsSound s p → refusal (cluster_of s) e p ≡ None → IsDue s e p → IsSound s (e ∷ p)
