@@ -1,0 +1,4 @@
+pub mod Outcomes
+pub mod Stops
+pub mod CollectedLemmas
+pub mod Courses
