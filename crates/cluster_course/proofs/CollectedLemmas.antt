@@ -7,7 +7,7 @@ use Rattle.history_model.specs.Legal.{IsLegal}
 use Rattle.history_model.proofs.Basics.{legal-before}
 use Rattle.history_model.proofs.Stability.{quiescent-stays}
 use Rattle.history_model.proofs.Stopped.{quiet-stopped, stopped-quiescent, stopped-unused, stopping-quiescent}
-use Rattle.journal_player.specs.Collected.{IsRightlyCollected}
+use Rattle.cluster_course.specs.Collected.{IsRightlyCollected}
 
 pub legal-rightly_collected : (cl : Cluster) (h : List Event) → IsLegal cl h → IsRightlyCollected cl h
 legal-rightly_collected cl h legal = record {

@@ -2,3 +2,4 @@ pub mod Outcomes
 pub mod Stops
 pub mod CollectedLemmas
 pub mod Courses
+pub mod LastVerdict

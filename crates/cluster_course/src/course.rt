@@ -5,9 +5,10 @@ ghost use Rattle.history_model.specs.Legal.{IsLegal};
 ghost use Rattle.history_model.specs.Sweeps.{IsVerdict};
 ghost use Rattle.journal_model.specs.Report.{stopped_total};
 ghost use Rattle.journal_model.specs.Verdicts.{report_text};
+ghost use Rattle.run_model.specs.Schedule.{IsWithinLimits};
 ghost use Rattle.node_collectors.specs.Standing.{AreCollectorsAt, is_of_collector};
 ghost use Rattle.node_collectors.specs.Wanted.{IsFirstUnhanded};
-ghost use Rattle.true_config.specs.Applying.{CarriesFew};
+ghost use Rattle.true_config.specs.Applying.{CarriesFew, told_of};
 ghost use Rattle.true_config.specs.Promises.{IsFoundBySweep};
 ghost use Rattle.true_config.specs.Steps.{Adds, MayFollow};
 ghost use Rattle.cluster_course.specs.Course.{outcome_of};
@@ -21,7 +22,7 @@ use history_model::{Event, Verdict};
 use node_collectors::NodeCollectors;
 use std::alloc::Global;
 use std::marker::Model;
-use true_config::{Applied, World};
+use true_config::{Applied, Told, World};
 
 /// A history as it goes on, with the collectors of its nodes and the verdicts of its sweeps. Contracts see the history. The
 /// collectors are given up where memory runs out in the midst of a hand or a sweep: then each later hand and sweep, and what is
@@ -64,11 +65,12 @@ impl Course {
         })
     }
 
-    /// The event happens, or the answer is what hinders it: the first rule that it breaks, or else the limit that it would pass;
+    /// The event happens, and what it tells is the answer; or the answer is what hinders it: the first rule that it breaks, or else the limit that it would pass;
     /// then the history is as before. An event in the time that the world takes for it, a hand and a sweep also in that of their
     /// node's collector.
-    pub fn follow(&mut self, event: Event) -> Result<(), Halt>
+    pub fn follow(&mut self, event: Event) -> Result<Told, Halt>
         requires few { CarriesFew event }
+        ensures told { IfOk result (λ told. told ≡ told_of event self.old.past) }
         ensures ok { OnOk result (Adds event self.old self.new) }
         ensures may { OnOk result (MayFollow event self.old) }
         ensures halt { IfErr result (λ h. IsHalt h event self.old) }
@@ -82,9 +84,10 @@ impl Course {
     }
 
     /// An event happens that is neither a hand nor a sweep.
-    fn happen(&mut self, event: Event) -> Result<(), Halt>
+    fn happen(&mut self, event: Event) -> Result<Told, Halt>
         requires other { is_of_collector event ≡ false }
         requires few { CarriesFew event }
+        ensures told { IfOk result (λ told. told ≡ told_of event self.old.past) }
         ensures ok { OnOk result (Adds event self.old self.new) }
         ensures may { OnOk result (MayFollow event self.old) }
         ensures halt { IfErr result (λ h. IsHalt h event self.old) }
@@ -94,7 +97,8 @@ impl Course {
     }
 
     /// A bulletin is handed to a node, and its collector takes it.
-    fn hand(&mut self, to: NodeId, origin: NodeId, number: u32) -> Result<(), Halt>
+    fn hand(&mut self, to: NodeId, origin: NodeId, number: u32) -> Result<Told, Halt>
+        ensures told { IfOk result (λ told. told ≡ told_of (events.Hand to origin number) self.old.past) }
         ensures ok { OnOk result (Adds (events.Hand to origin number) self.old self.new) }
         ensures may { OnOk result (MayFollow (events.Hand to origin number) self.old) }
         ensures halt { IfErr result (λ h. IsHalt h (events.Hand to origin number) self.old) }
@@ -104,15 +108,17 @@ impl Course {
             return Err(Halt::NoMemory);
         }
         match was_done(self.world.apply(&Event::Hand { to, origin, number })) {
-            Ok(()) => {}
-            Err(halt) => return Err(halt),
+            Ok(told) => {
+                take_in(&mut self.collectors, &self.world, to, origin, number);
+                Ok(told)
+            }
+            Err(halt) => Err(halt),
         }
-        take_in(&mut self.collectors, &self.world, to, origin, number);
-        Ok(())
     }
 
     /// A node sweeps, with the verdict that its collector finds.
-    fn sweep(&mut self, node: NodeId) -> Result<(), Halt>
+    fn sweep(&mut self, node: NodeId) -> Result<Told, Halt>
+        ensures told { IfOk result (λ told. told ≡ told_of (events.Sweep node) self.old.past) }
         ensures ok { OnOk result (Adds (events.Sweep node) self.old self.new) }
         ensures may { OnOk result (MayFollow (events.Sweep node) self.old) }
         ensures halt { IfErr result (λ h. IsHalt h (events.Sweep node) self.old) }
@@ -126,19 +132,27 @@ impl Course {
             return Err(Halt::NoMemory);
         }
         let verdict = verdict_of(&mut self.collectors, &self.world, node)?;
-        match was_done(self.world.sweep(&verdict)) {
-            Ok(()) => {}
+        let told = match was_done(self.world.sweep(&verdict)) {
+            Ok(told) => told,
             Err(halt) => {
                 self.collectors = None;
                 return Err(halt);
             }
-        }
+        };
         // No more actors are stopped than there are events.
         self.world.is_lawful();
         let _events = self.world.history().len();
         self.stopped += verdict.stops.len() as u64;
         self.verdicts.push_reserved(verdict);
-        Ok(())
+        Ok(told)
+    }
+
+    /// The history is always legal, and none of its events passed a limit. It does nothing: its contract is the law.
+    pub fn is_lawful(&self)
+        ensures legal { IsLegal self.now.cluster self.now.past }
+        ensures within { IsWithinLimits self.now.cluster self.now.past }
+    {
+        self.world.is_lawful();
     }
 
     /// The world, in which the history is. Constant time.
@@ -210,12 +224,12 @@ impl Course {
     }
 }
 
-/// Whether the world did what it was asked.
-fn was_done(applied: Result<Applied, NoMemory>) -> Result<(), Halt>
+/// What the event told, if the world did what it was asked.
+fn was_done(applied: Result<Applied, NoMemory>) -> Result<Told, Halt>
     ensures { result ≡ outcome_of applied }
 {
     match applied {
-        Ok(Applied::Done(_)) => Ok(()),
+        Ok(Applied::Done(told)) => Ok(told),
         Ok(Applied::Illegal(rule)) => Err(Halt::Rule(rule)),
         Ok(Applied::Limit(which)) => Err(Halt::Limit(which)),
         Err(_) => Err(Halt::NoMemory),

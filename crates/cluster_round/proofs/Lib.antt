@@ -1,0 +1,4 @@
+pub mod Staging
+pub mod Adding
+pub mod Flushing
+pub mod Handing

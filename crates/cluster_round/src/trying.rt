@@ -17,7 +17,7 @@ pub(crate) fn try_event(course: &mut Course, event: Event) -> Result<(), RoundHa
     ensures halt { IfErr result (λ h. IsRoundHalt h course.old.cluster (tried course.old.cluster event course.old.past) course.new.past) }
 {
     match course.follow(event) {
-        Ok(()) => Ok(()),
+        Ok(_) => Ok(()),
         Err(Halt::Rule(_)) => Ok(()),
         Err(Halt::Limit(which)) => Err(RoundHalt::Limit(which)),
         Err(Halt::NoMemory) => Err(RoundHalt::NoMemory),

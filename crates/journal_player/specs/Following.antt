@@ -1,11 +1,9 @@
 -- What was read of a journal, with the cluster of its header.
-use Rattle.std.specs.Prelude.{ℕ, Bool, false, List, [], ◌∷◌, drop, map, take}
-use Rattle.history_model.specs.declared.events.Event.{Event}
-use Rattle.history_model.specs.declared.records.Verdict.{Verdict}
+use Rattle.std.specs.Prelude.{ℕ, Bool, false, [], drop}
 use Rattle.history_model.specs.Cluster.{Cluster}
 use Rattle.history_model.specs.Story.{Story}
-use Rattle.journal_model.specs.Journals.{Replay, due_after}
-use Rattle.journal_model.specs.Lines.{cut_words, spell, stop_words}
+use Rattle.journal_model.specs.Journals.{Replay}
+use Rattle.cluster_course.specs.Due.{lines_made_due}
 
 pub record Following : Type 0 where
   pub cluster : Cluster

@@ -94,7 +94,7 @@ impl Player {
         ensures halt { IfErr result (λ h. IsHalt h (after_event self.old.cluster self.old.replay event)) }
     {
         match self.course.follow(event) {
-            Ok(()) => {
+            Ok(_) => {
                 self.told = 0;
                 self.ended = false;
                 Ok(())

@@ -1,5 +1,5 @@
-use Rattle.journal_player.proofs.Courses.{course-begun}
-use Rattle.journal_player.proofs.course.Course.begin.Goals as goal
+use Rattle.cluster_course.proofs.Courses.{course-begun}
+use Rattle.cluster_course.proofs.course.Course.begin.Goals as goal
 
 pub invariant_of-result : goal.invariant_of-result
 invariant_of-result c =

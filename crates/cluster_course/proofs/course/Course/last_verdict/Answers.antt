@@ -2,8 +2,8 @@ use Rattle.std.proofs.Common.{◌≡◌, ◌≤◌, ◌-◌, length, slice_get, 
 use Rattle.history_model.specs.declared.events.Event.TheVariants.{Sweep as Sweeps}
 use Rattle.history_model.specs.declared.records.Verdict.{Verdict}
 use Rattle.history_model.specs.Story.{Story}
-use Rattle.journal_player.proofs.DueLines.{first-reversed, last-made_due}
-use Rattle.journal_player.proofs.course.Course.last_verdict.Goals as goal
+use Rattle.cluster_course.proofs.LastVerdict.{first-reversed, last-made_due}
+use Rattle.cluster_course.proofs.course.Course.last_verdict.Goals as goal
 
 pub returns : goal.returns
 returns c =
