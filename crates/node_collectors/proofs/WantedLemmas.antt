@@ -1,6 +1,5 @@
 -- The first number that a node's collector misses is the first that was not handed to the node.
-use Rattle.std.proofs.Common.{◌≡◌, ◌<◌, ◌≤◌, ◌||◌, ℕ, Bool, true, false, List, Option, Some, None, nat_lt, refl, sym, ◌∙◌, ap, inl, inr, arith}
-use Rattle.std.specs.Prelude.{IsSome}
+use Rattle.std.proofs.Common.{◌≡◌, ◌<◌, ◌≤◌, ◌||◌, ℕ, Bool, false, List, Option, None, nat_lt, sym, ◌∙◌, ap, inl, inr, arith}
 use Rattle.std.specs.Option.{is_some}
 use Rattle.std.proofs.lemmas.Bool.{cases_lt, lt-ltb, or_left, or_right}
 use Rattle.std.proofs.lemmas.Bool.Decides.{nat_tests}
@@ -9,10 +8,6 @@ use Rattle.history_model.specs.Cluster.{Cluster}
 use Rattle.gossip_core.specs.Gossip.{IsFirstMissing, kept_at}
 use Rattle.collector.specs.Collected.{Collected, IsCollectorAt, cut_of}
 use Rattle.node_collectors.specs.Wanted.{IsFirstUnhanded}
-
-some-true : {X : Type 0} (o : Option X) → IsSome o → is_some o ≡ true
-some-true (Some x) some = refl
-some-true None some = absurd some
 
 none-false : {X : Type 0} (o : Option X) → o ≡ None → is_some o ≡ false
 none-false o none = ap is_some none
@@ -27,8 +22,8 @@ first-unhanded cl h m o number c at inside first =
     record {
       missing = sym (at.handed o number inside) ∙ or-none (nat_lt number (cut_of c o)) (is_some (kept_at c.order o number)) unfolded (none-false (kept_at c.order o number) first.missing);
       handed = λ k under. sym (at.handed o k inside)
-      ∙ elim (cases_lt k (cut_of c o)) [
-        | inl folded ↦ or_left (nat_lt k (cut_of c o)) (is_some (kept_at c.order o k)) (lt-ltb k (cut_of c o) folded)
-        | inr beyond ↦ or_right (nat_lt k (cut_of c o)) (is_some (kept_at c.order o k)) (some-true (kept_at c.order o k) (first.kept k beyond under))
-      ];
+          ∙ elim (cases_lt k (cut_of c o)) [
+            | inl folded ↦ or_left (nat_lt k (cut_of c o)) (is_some (kept_at c.order o k)) (lt-ltb k (cut_of c o) folded)
+            | inr beyond ↦ or_right (nat_lt k (cut_of c o)) (is_some (kept_at c.order o k)) (first.kept k beyond under)
+          ];
     }
