@@ -1,5 +1,5 @@
 -- What is kept beside a history stays so with the next event.
-use Rattle.std.proofs.Common.{◌≡◌, ◌+◌, ℕ, true, false, List, [], ◌∷◌, ◌++◌, length, drop, reverse, Option, Some, None, refl, sym, ◌∙◌, ap, subst}
+use Rattle.std.proofs.Common.{◌≡◌, ◌+◌, ℕ, true, false, List, [], ◌∷◌, ◌++◌, length, drop, reverse, Option, Some, None, Result, Ok, Err, refl, sym, ◌∙◌, ap, subst}
 use Rattle.std.specs.Prelude.{IfSome}
 use Rattle.std.proofs.lemmas.List.{reverse-append}
 use Rattle.collector.specs.Collected.{Collected}
@@ -14,8 +14,13 @@ use Rattle.journal_model.specs.Verdicts.{AreVerdicts}
 use Rattle.node_collectors.specs.Standing.{AreCollectorsAt, is_of_collector}
 use Rattle.node_collectors.proofs.StandLemmas.{changes-none}
 use Rattle.run_model.specs.Schedule.{IsWithinLimits}
+use Rattle.crgc_ids.specs.declared.NoMemory.{NoMemory}
+use Rattle.true_config.specs.Applying.{OnDone, UnlessDone}
+use Rattle.true_config.specs.declared.applied.Applied.{Applied}
+use Rattle.true_config.specs.declared.applied.Applied.TheVariants.{Done, Illegal, Limit}
 use Rattle.true_config.specs.Steps.{Adds, MayFollow}
 use Rattle.cluster_course.specs.Course.{IsCourse}
+use Rattle.cluster_course.proofs.Outcomes.{Answers, may-follow}
 use Rattle.cluster_course.proofs.Stops.{stops-more}
 
 story-is : (s t : Story) → s.cluster ≡ t.cluster → s.past ≡ t.past → s ≡ t
@@ -75,6 +80,13 @@ course-plain s s' cs vs n e before may adds other =
     let same = story-is t s' (sym adds.cluster) (sym adds.past) in
     course-other s s' cs cs vs n e before may adds (no_sweep e other)
     (subst (λ (x : Story). IfSome cs (AreCollectorsAt x.cluster x.past)) same (stands-on s.cluster s.past cs e other before.collectors))
+
+-- what comes of an event that is neither a hand nor a sweep
+pub course-after : (e : Event) (s s' : Story) (cs : Option (List Collected)) (vs : List Verdict) (n : ℕ) (r : Result Applied NoMemory) → IsCourse s cs vs n → Answers e s r → OnDone r (Adds e s s') → UnlessDone r (s' ≡ s) → is_of_collector e ≡ false → IsCourse s' cs vs n
+course-after e s s' cs vs n (Ok (Done told)) before answer done unless other = course-plain s s' cs vs n e before (may-follow e s (Ok (Done told)) told answer refl) done other
+course-after e s s' cs vs n (Ok (Illegal broken)) before answer done unless other = course-same s s' cs vs n (sym unless) before
+course-after e s s' cs vs n (Ok (Limit which)) before answer done unless other = course-same s s' cs vs n (sym unless) before
+course-after e s s' cs vs n (Err none) before answer done unless other = course-same s s' cs vs n (sym unless) before
 
 -- an event that is none of a collector
 pub of_none : (e : Event) → ((m o k : ℕ) → e ≡ Hand m o k → ⊥) → ((m : ℕ) → e ≡ Sweep m → ⊥) → is_of_collector e ≡ false

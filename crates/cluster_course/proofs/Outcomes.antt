@@ -1,6 +1,7 @@
 -- What a world answers, against what the definitions say of the event.
-use Rattle.std.proofs.Common.{◌≡◌, Option, Some, None, Result, Ok, Err, refl, subst}
-use Rattle.std.specs.Prelude.{IfOk, unwrap_or}
+use Rattle.std.proofs.Common.{◌≡◌, Option, Some, None, Result, Ok, Err, refl, sym, true, subst}
+use Rattle.std.specs.Prelude.{IfErr, IfOk, OnOk, unwrap_or}
+use Rattle.std.specs.Result.{is_ok}
 use Rattle.crgc_ids.specs.declared.NoMemory.{NoMemory}
 use Rattle.crgc_ids.specs.declared.Which.{Which}
 use Rattle.history_model.specs.declared.events.Event.{Event}
@@ -92,3 +93,37 @@ tells e s r u answer done = done-told (refusal s.cluster e s.past) (limit_passed
 
 pub is-halt : (e : Event) (s : Story) (r : Result Applied NoMemory) (h : Halt) → Answers e s r → outcome_of r ≡ Err h → IsHalt h e s
 is-halt e s r h answer halt = halt-is e s h (halts-by (refusal s.cluster e s.past) (limit_passed s.cluster e s.past) (told_of e s.past) r h answer halt)
+
+-- what came of the event is what the world was told
+module _ (e : Event) (s : Story) (r : Result Applied NoMemory) (answer : Answers e s r) (w : Result Told Halt) (is : w ≡ outcome_of r) where
+  pub outcome-told : IfOk w (λ told. told ≡ told_of e s.past)
+  outcome-told = subst (λ x. IfOk x (λ told. told ≡ told_of e s.past)) (sym is) (by r answer)
+    where
+      by : (x : Result Applied NoMemory) → Answers e s x → IfOk (outcome_of x) (λ told. told ≡ told_of e s.past)
+      by (Ok (Done told)) done = tells e s (Ok (Done told)) told done refl
+      by (Ok (Illegal broken)) done = tt
+      by (Ok (Limited which)) done = tt
+      by (Err none) done = tt
+
+  pub outcome-may : OnOk w (MayFollow e s)
+  outcome-may = subst (λ x. OnOk x (MayFollow e s)) (sym is) (by r answer)
+    where
+      by : (x : Result Applied NoMemory) → Answers e s x → OnOk (outcome_of x) (MayFollow e s)
+      by (Ok (Done told)) done = may-follow e s (Ok (Done told)) told done refl
+      by (Ok (Illegal broken)) done = tt
+      by (Ok (Limited which)) done = tt
+      by (Err none) done = tt
+
+  pub outcome-halt : IfErr w (λ h. IsHalt h e s)
+  outcome-halt = subst (λ x. IfErr x (λ h. IsHalt h e s)) (sym is) (by r answer)
+    where
+      by : (x : Result Applied NoMemory) → Answers e s x → IfErr (outcome_of x) (λ h. IsHalt h e s)
+      by (Ok (Done told)) done = tt
+      by (Ok (Illegal broken)) done = is-halt e s (Ok (Illegal broken)) (halts.Rule broken) done refl
+      by (Ok (Limited which)) done = is-halt e s (Ok (Limited which)) (halts.Limit which) done refl
+      by (Err none) done = tt
+
+-- what is so where there is an answer
+pub on-ok : {X E : Type 0} (r : Result X E) (P : Type 0) → is_ok r ≡ true → OnOk r P → P
+on-ok (Ok x) P is holds = holds
+on-ok (Err e) P is holds = absurd (cc)
