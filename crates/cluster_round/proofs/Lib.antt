@@ -1,4 +1,5 @@
+pub mod TryLemmas
 pub mod Staging
 pub mod Adding
-pub mod Flushing
-pub mod Handing
+pub mod FlushLemmas
+pub mod HandLemmas

@@ -1,6 +1,7 @@
 -- A step for each number, one after the other: what comes of the next one, which of them may be skipped, and that what halts
 -- a part of a history halts the whole.
-use Rattle.std.proofs.Common.{◌≡◌, ◌<◌, ◌≤◌, ◌+◌, ℕ, zero, suc, List, ◌∷◌, ◌++◌, sym, ◌∙◌, ap, subst, inl, inr, arith}
+use Rattle.std.proofs.Common.{◌≡◌, ◌<◌, ◌≤◌, ◌+◌, ℕ, zero, suc, List, ◌∷◌, ◌++◌, sym, ◌∙◌, ap, subst, inl, inr, arith, Result, Ok, Err}
+use Rattle.std.specs.Prelude.{IfErr, OnOk}
 use Rattle.std.proofs.lemmas.Bool.{cases_lt}
 use Rattle.history_model.specs.declared.events.Event.{Event}
 use Rattle.history_model.specs.Cluster.{Cluster}
@@ -50,26 +51,38 @@ each-skip step h now i (suc j) within is stays =
 
 -- ---- the steps of a cluster
 
-module _ (step : Cluster → ℕ → List Event → List Event) (cl now_cl : Cluster) (n : ℕ) (h now new : List Event) (same : now_cl ≡ cl) (is : now ≡ each (step cl) n h) where
-  pub step-next : new ≡ step now_cl n now → new ≡ each (step cl) (n + 1) h
+module _ (step : Cluster → ℕ → List Event → List Event) (cl now_cl : Cluster) (n k : ℕ) (h now new : List Event) (same : now_cl ≡ cl) (here : k ≡ n) (is : now ≡ each (step cl) n h) where
+  pub step-next : new ≡ step now_cl k now → new ≡ each (step cl) (n + 1) h
   step-next next =
       let more : suc n ≡ n + 1 = omega arith in
-      next ∙ ap (λ (c : Cluster). step c n now) same ∙ ap (step cl n) is ∙ ap (λ k. each (step cl) k h) more
+      next ∙ ap (λ (c : Cluster). step c k now) same ∙ ap (λ j. step cl j now) here ∙ ap (step cl n) is ∙ ap (λ k. each (step cl) k h) more
 
   -- what halts a step halts all of them
-  pub step-halts : (halt : RoundHalt) (total : ℕ) → n < total → OnlyAdds (step cl) → IsRoundHalt halt now_cl (step now_cl n now) new → IsRoundHalt halt cl (each (step cl) total h) new
+  pub step-halts : (halt : RoundHalt) (total : ℕ) → n < total → OnlyAdds (step cl) → IsRoundHalt halt now_cl (step now_cl k now) new → IsRoundHalt halt cl (each (step cl) total h) new
   step-halts halt total below adds halted =
       let here : IsRoundHalt halt cl (each (step cl) (suc n) h) new =
-      subst (λ g. IsRoundHalt halt cl (step cl n g) new) is (subst (λ (c : Cluster). IsRoundHalt halt c (step c n now) new) same halted) in
+      subst (λ g. IsRoundHalt halt cl (step cl n g) new) is
+      (subst (λ j. IsRoundHalt halt cl (step cl j now) new) here (subst (λ (c : Cluster). IsRoundHalt halt c (step c k now) new) same halted)) in
       halts-whole halt cl (each (step cl) (suc n) h) (each (step cl) total h) new
       (λ e on. each-more (GoesOn e new) (step cl) (λ k g. adds e new k g) (suc n) total h (omega (arith, below)) on) here
 
 -- ---- two parts, one after the other
 
 module _ (next : Cluster → List Event → List Event) (cl now_cl : Cluster) (first now new : List Event) (same : now_cl ≡ cl) (is : now ≡ first) where
-  pub then-next : new ≡ next now_cl now → new ≡ next cl first
-  then-next more = more ∙ ap (λ (c : Cluster). next c now) same ∙ ap (next cl) is
+  target-same : next now_cl now ≡ next cl first
+  target-same = ap (λ (c : Cluster). next c now) same ∙ ap (next cl) is
 
-  pub then-halts : (halt : RoundHalt) → IsRoundHalt halt now_cl (next now_cl now) new → IsRoundHalt halt cl (next cl first) new
-  then-halts halt halted =
-      subst (λ g. IsRoundHalt halt cl (next cl g) new) is (subst (λ (c : Cluster). IsRoundHalt halt c (next c now) new) same halted)
+  pub next-ok : (r : Result (Unit {0}) RoundHalt) → OnOk r (new ≡ next now_cl now) → OnOk r (new ≡ next cl first)
+  next-ok (Ok u) more = more ∙ target-same
+  next-ok (Err e) more = tt
+
+  pub next-halts : (r : Result (Unit {0}) RoundHalt) → IfErr r (λ halt. IsRoundHalt halt now_cl (next now_cl now) new) → IfErr r (λ halt. IsRoundHalt halt cl (next cl first) new)
+  next-halts (Ok u) halted = tt
+  next-halts (Err e) halted = subst (λ g. IsRoundHalt e cl g new) target-same (subst (λ (c : Cluster). IsRoundHalt e c (next now_cl now) new) same halted)
+
+  -- one part in the middle halts, and more would follow
+  pub part-halts : (halt : RoundHalt) (whole : List Event) → ((e : Event) → GoesOn e new (next cl first) → GoesOn e new whole) → IsRoundHalt halt now_cl (next now_cl now) new → IsRoundHalt halt cl whole new
+  part-halts halt whole on halted = halts-whole halt cl (next cl first) whole new on (next-halts (Err halt) halted)
+
+  pub part-next : new ≡ next now_cl now → new ≡ next cl first
+  part-next more = more ∙ target-same

@@ -3,7 +3,7 @@ ghost use Rattle.std.specs.Prelude.{◌≡◌, ◌+◌, ◌∷◌, ℕ, None, If
 ghost use Rattle.history_model.specs.declared.events.Event.TheVariants as events;
 ghost use Rattle.history_model.specs.Cluster.{births};
 ghost use Rattle.history_model.specs.Legal.{refusal};
-ghost use Rattle.run_model.specs.Round.{flushed, flushed_on, flushes, flushes_on};
+ghost use Rattle.run_model.specs.Round.{flushed, flushed_on, flushes, flushes_on, published};
 ghost use Rattle.cluster_round.specs.Halting.{IsRoundHalt};
 ghost use Rattle.cluster_round.specs.Steps.{actors_flushed};
 
@@ -22,7 +22,10 @@ pub(crate) fn flush_all(course: &mut Course) -> Result<(), RoundHalt>
     ensures halt { IfErr result (λ h. IsRoundHalt h course.old.cluster (flushes course.old.cluster course.old.past) course.new.past) }
 {
     for number in 0..course.nodes() {
-        flush_node(course, node(number))?;
+        match flush_node(course, node(number)) {
+            Ok(()) => {}
+            Err(halt) => return Err(halt),
+        }
     }
     Ok(())
 }
@@ -33,7 +36,10 @@ fn flush_node(course: &mut Course, node: NodeId) -> Result<(), RoundHalt>
     ensures ok { OnOk result (course.new.past ≡ flushed_on course.old.cluster node course.old.past) }
     ensures halt { IfErr result (λ h. IsRoundHalt h course.old.cluster (flushed_on course.old.cluster node course.old.past) course.new.past) }
 {
-    flush_actors(course, node)?;
+    match flush_actors(course, node) {
+        Ok(()) => {}
+        Err(halt) => return Err(halt),
+    }
     try_event(course, Event::Publish { node })
 }
 
@@ -46,8 +52,13 @@ fn flush_actors(course: &mut Course, node: NodeId) -> Result<(), RoundHalt>
     let mut after = None;
     let mut count = 0;
     while let Some(actor) = course.world().next_flush(node, after) {
+        // As many were flushed as have a lower serial, at most.
+        let _serial = actor.serial();
         count += 1;
-        flush(course, actor, count)?;
+        match flush(course, actor, count) {
+            Ok(()) => {}
+            Err(halt) => return Err(halt),
+        }
         after = Some(actor);
     }
     Ok(())
@@ -62,9 +73,24 @@ fn flush(course: &mut Course, actor: ActorId, count: usize) -> Result<(), RoundH
     ensures halt { IfErr result (λ h. (past : ℕ) → flushes_on actor.node (events.Flush actor ∷ course.old.past) ≡ past + count
         → IsRoundHalt h course.old.cluster (flushed course.old.cluster actor.node past actor.serial course.old.past) course.new.past) }
 {
-    try_event(course, Event::Flush { actor })?;
-    if count % FLUSHES_PER_PUBLISH == 0 {
-        return try_event(course, Event::Publish { node: actor.node() });
+    match try_event(course, Event::Flush { actor }) {
+        Ok(()) => {}
+        Err(halt) => return Err(halt),
+    }
+    publish_if_due(course, actor.node(), count)
+}
+
+/// The node publishes if its flushes in this round are so many that a publish is due.
+fn publish_if_due(course: &mut Course, node: NodeId, count: usize) -> Result<(), RoundHalt>
+    ensures cluster { course.new.cluster ≡ course.old.cluster }
+    ensures ok { OnOk result ((past : ℕ) → flushes_on node course.old.past ≡ past + count
+        → course.new.past ≡ published course.old.cluster node past course.old.past) }
+    ensures halt { IfErr result (λ h. (past : ℕ) → flushes_on node course.old.past ≡ past + count
+        → IsRoundHalt h course.old.cluster (published course.old.cluster node past course.old.past) course.new.past) }
+{
+    let due = count % FLUSHES_PER_PUBLISH == 0;
+    if due {
+        return try_event(course, Event::Publish { node });
     }
     Ok(())
 }

@@ -13,3 +13,6 @@ mod windowing;
 
 pub use halt::RoundHalt;
 pub use rounds::round;
+
+#[cfg(test)]
+mod tests;

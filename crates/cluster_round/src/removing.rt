@@ -17,7 +17,10 @@ pub(crate) fn remove_crashed(course: &mut Course) -> Result<(), RoundHalt>
     ensures halt { IfErr result (λ h. IsRoundHalt h course.old.cluster (removals course.old.cluster course.old.past) course.new.past) }
 {
     for number in 0..course.nodes() {
-        remove_at(course, node(number))?;
+        match remove_at(course, node(number)) {
+            Ok(()) => {}
+            Err(halt) => return Err(halt),
+        }
     }
     Ok(())
 }
@@ -30,7 +33,10 @@ fn remove_at(course: &mut Course, at: NodeId) -> Result<(), RoundHalt>
 {
     for number in 0..course.nodes() {
         let gone = node(number);
-        try_event(course, Event::Remove { at, gone })?;
+        match try_event(course, Event::Remove { at, gone }) {
+            Ok(()) => {}
+            Err(halt) => return Err(halt),
+        }
     }
     Ok(())
 }

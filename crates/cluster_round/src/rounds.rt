@@ -20,9 +20,21 @@ pub fn round(course: &mut Course) -> Result<(), RoundHalt>
     ensures ok { OnOk result (course.new.past ≡ round course.old.cluster course.old.past) }
     ensures halt { IfErr result (λ h. IsRoundHalt h course.old.cluster (round course.old.cluster course.old.past) course.new.past) }
 {
-    remove_crashed(course)?;
-    tell_admitted(course)?;
-    flush_all(course)?;
-    hand_all(course)?;
+    match remove_crashed(course) {
+        Ok(()) => {}
+        Err(halt) => return Err(halt),
+    }
+    match tell_admitted(course) {
+        Ok(()) => {}
+        Err(halt) => return Err(halt),
+    }
+    match flush_all(course) {
+        Ok(()) => {}
+        Err(halt) => return Err(halt),
+    }
+    match hand_all(course) {
+        Ok(()) => {}
+        Err(halt) => return Err(halt),
+    }
     sweep_all(course)
 }

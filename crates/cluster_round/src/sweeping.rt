@@ -16,7 +16,10 @@ pub(crate) fn sweep_all(course: &mut Course) -> Result<(), RoundHalt>
 {
     for number in 0..course.nodes() {
         let node = node(number);
-        try_event(course, Event::Sweep { node })?;
+        match try_event(course, Event::Sweep { node }) {
+            Ok(()) => {}
+            Err(halt) => return Err(halt),
+        }
     }
     Ok(())
 }

@@ -17,7 +17,10 @@ pub(crate) fn tell_admitted(course: &mut Course) -> Result<(), RoundHalt>
     ensures halt { IfErr result (λ h. IsRoundHalt h course.old.cluster (windows course.old.cluster course.old.past) course.new.past) }
 {
     for number in 0..course.nodes() {
-        tell_admitted_at(course, node(number))?;
+        match tell_admitted_at(course, node(number)) {
+            Ok(()) => {}
+            Err(halt) => return Err(halt),
+        }
     }
     Ok(())
 }
@@ -30,7 +33,10 @@ fn tell_admitted_at(course: &mut Course, at: NodeId) -> Result<(), RoundHalt>
 {
     for number in 0..course.nodes() {
         let from = node(number);
-        try_event(course, Event::Window { at, from })?;
+        match try_event(course, Event::Window { at, from }) {
+            Ok(()) => {}
+            Err(halt) => return Err(halt),
+        }
     }
     Ok(())
 }

@@ -1,8 +1,9 @@
 //! Playing a journal: from its bytes to its report.
 ghost use Rattle.std.specs.Prelude.{◌≡◌, ◌≤◌, length, Ok, IfOk, IfErr, OnOk};
+ghost use Rattle.history_model.specs.Legal.{IsLegal};
 ghost use Rattle.history_model.specs.Story.{Story};
 ghost use Rattle.cluster_course.specs.Collected.{IsRightlyCollected};
-ghost use Rattle.journal_model.specs.Journals.{after_lines, journal_of};
+ghost use Rattle.journal_model.specs.Journals.{Replay, after_lines, journal_of};
 ghost use Rattle.journal_model.specs.Lines.{lines_of};
 ghost use Rattle.journal_model.specs.Verdicts.{report_text};
 ghost use Rattle.journal_player.specs.Faults.{IsPlayFault};
@@ -11,6 +12,7 @@ use crate::fault::{Cause, PlayFault};
 use crate::header::read_header;
 use crate::lines::next_line;
 use crate::player::Player;
+use cluster_course::laws::a_legal_history_is_rightly_collected;
 use crgc_ids::Which;
 use std::alloc::Global;
 
@@ -35,8 +37,24 @@ pub fn play(alloc: Global, text: &[u8], brief: bool) -> Result<Vec<u8>, PlayFaul
     let Some((nodes, version)) = read_header(first) else {
         return Err(NO_HEADER);
     };
+    a_legal_history_is_rightly_collected();
     let mut player = Player::begin(alloc, nodes, version)?;
-    match follow_all(alloc, &mut player, rest) {
+    report_of(alloc, &mut player, rest, brief)
+}
+
+/// The report after all lines of the text, of which the first is line 2, or the first fault.
+fn report_of(
+    alloc: Global,
+    player: &mut Player,
+    text: &[u8],
+    brief: bool,
+) -> Result<Vec<u8>, PlayFault>
+    requires { length text.now ≤ 16777216 }
+    ensures report { IfOk result (λ bytes. (r : Replay) × (after_lines player.old.cluster 2 player.old.replay (lines_of text.now) ≡ Ok r)
+        × IsLegal player.old.cluster r.past × (bytes.items ≡ report_text player.old.cluster r.past brief)) }
+    ensures fault { IfErr result (λ f. IsPlayFault f (after_lines player.old.cluster 2 player.old.replay (lines_of text.now))) }
+{
+    match follow_all(alloc, player, text) {
         Ok(()) => Ok(player.report(alloc, brief)?),
         Err(fault) => Err(fault),
     }

@@ -36,17 +36,17 @@ none-handed cl m o h down = each-skip (handed cl m o) h h 0 (length (stream cl o
 
 -- the bulletins of o up to a number were handed to m, and from there on the first number that is wanted is known
 pub record IsHandedUpTo (cl : Cluster) (m o : ℕ) (h now : List Event) (end number : ℕ) : Type 0 where
-  pub end : end ≡ length (stream cl o h)
+  pub long : end ≡ length (stream cl o h)
   pub done : (i : ℕ) × (i ≤ end) × (i ≤ number) × (now ≡ each (handed cl m o) i h)
-  pub stream : stream cl o now ≡ stream cl o h
+  pub same : stream cl o now ≡ stream cl o h
   pub up : IsTrue (is_up m now)
   pub wanted : IsFirstUnhanded m o now number
 
 pub handed-start : (cl : Cluster) (m o : ℕ) (h : List Event) (end number : ℕ) → end ≡ length (stream cl o h) → IsTrue (is_up m h) → IsFirstUnhanded m o h number → IsHandedUpTo cl m o h h end number
 handed-start cl m o h end number long up wanted = record {
-  end = long;
+  long = long;
   done = (0, omega arith, omega arith, refl);
-  stream = refl;
+  same = refl;
   up = up;
   wanted = wanted;
 }
@@ -64,8 +64,8 @@ module _ (cl : Cluster) (m o : ℕ) (h now : List Event) (end number : ℕ) (at 
   -- where the wanted number is not there yet, all were handed
   pub handed-all : end ≤ number → now ≡ handed_from cl m o h
   handed-all beyond =
-      each-skip (handed cl m o) h now at.done.0 (length (stream cl o h)) (subst (λ n. at.done.0 ≤ n) at.end at.done.1) at.done.3
-      (λ k _ below. handed-before cl m o k now (at.wanted.handed k (omega (arith, below, at.end, beyond))))
+      each-skip (handed cl m o) h now at.done.0 (length (stream cl o h)) (subst (λ n. at.done.0 ≤ n) at.long at.done.1) at.done.3
+      (λ k _ below. handed-before cl m o k now (at.wanted.handed k (omega (arith, below, at.long, beyond))))
 
   module _ (below : number < end) where
     pub wanted-reached : now ≡ each (handed cl m o) number h
@@ -73,7 +73,7 @@ module _ (cl : Cluster) (m o : ℕ) (h now : List Event) (end number : ℕ) (at 
         each-skip (handed cl m o) h now at.done.0 number at.done.2 at.done.3 (λ k _ under. handed-before cl m o k now (at.wanted.handed k under))
 
     pub wanted-below : number < length (stream cl o h)
-    wanted-below = omega (arith, below, at.end)
+    wanted-below = omega (arith, below, at.long)
 
     pub wanted-handed : handed cl m o number now ≡ tried cl (Hand m o number) now
     wanted-handed = handed-first cl m o number now at.wanted.missing
@@ -82,7 +82,7 @@ module _ (cl : Cluster) (m o : ℕ) (h now : List Event) (end number : ℕ) (at 
       -- the wanted bulletin is handed
       happens : new ≡ Hand m o number ∷ now
       happens =
-          let long : number < length (stream cl o now) = subst (λ s. number < length s) (sym at.stream) wanted-below in
+          let long : number < length (stream cl o now) = subst (λ s. number < length s) (sym at.same) wanted-below in
           let none = hand-free cl m o number now first second at.up long in
           is ∙ ap (λ r. cond (is_none r) (Hand m o number ∷ now) now) none
 
@@ -98,6 +98,7 @@ module _ (cl : Cluster) (m o : ℕ) (h now : List Event) (end number : ℕ) (at 
         where
           itself : was_handed m o number (Hand m o number ∷ now) ≡ true
           itself = or_left _ (was_handed m o number now) (and_from (m == m) ((o == o) && (number == number)) (eqb-refl m) (and_from (o == o) (number == number) (eqb-refl o) (eqb-refl number)))
+
           none : next ≤ number → ⊥
           none before = elim (cases_lt next number) [
             | inl lower ↦ false≢true (sym then_wanted.missing ∙ handed-stays m o next number now (at.wanted.handed next lower))
@@ -106,9 +107,9 @@ module _ (cl : Cluster) (m o : ℕ) (h now : List Event) (end number : ℕ) (at 
 
       pub wanted-next : IsHandedUpTo cl m o h new end next
       wanted-next = record {
-        end = at.end;
+        long = at.long;
         done = (number + 1, omega (arith, below), omega (arith, wanted-later), reached);
-        stream = subst (λ g. stream cl o g ≡ stream cl o h) (sym happens) at.stream;
+        same = subst (λ g. stream cl o g ≡ stream cl o h) (sym happens) at.same;
         up = subst (λ g. IsTrue (is_up m g)) (sym happens) at.up;
         wanted = wants;
       }
