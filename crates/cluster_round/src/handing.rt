@@ -110,7 +110,8 @@ fn hand_next(course: &mut Course, to: NodeId, origin: NodeId, number: u32) -> Re
     ensures cluster { course.new.cluster ≡ course.old.cluster }
     ensures ok { OnOk result (course.new.past ≡ tried course.old.cluster (events.Hand to origin number) course.old.past) }
     ensures next { IfOk result (IsFirstUnhanded to origin course.new.past) }
-    ensures halt { IfErr result (λ h. IsRoundHalt h course.old.cluster (tried course.old.cluster (events.Hand to origin number) course.old.past) course.new.past) }
+    ensures halt { IfErr result (λ h.
+        IsRoundHalt h course.old.cluster (tried course.old.cluster (events.Hand to origin number) course.old.past) course.new.past) }
 {
     match try_event(course, Event::Hand { to, origin, number }) {
         Ok(()) => {}
