@@ -4,7 +4,7 @@ use Rattle.std.specs.Io.KnownBytes.{Appends, IsAtEnd}
 use Rattle.crgc_io.specs.Fault.{CountRose}
 use Rattle.crgc_io.specs.Taken.{Takes}
 use Rattle.history_model.specs.Story.{Story}
-use Rattle.journal_player.specs.Collected.{IsRightlyCollected}
+use Rattle.cluster_course.specs.Collected.{IsRightlyCollected}
 use Rattle.journal_model.specs.Journals.{journal_of, limit}
 use Rattle.journal_model.specs.Lines.{line_of}
 use Rattle.journal_model.specs.Verdicts.{report_text}

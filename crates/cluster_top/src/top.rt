@@ -1,7 +1,7 @@
 //! The top call: words, source and sink in, a status out.
 ghost use Rattle.std.specs.Prelude.{◌≡◌, ◌≤◌, false, Ok, IfOk, IfErr, map, string_bytes};
 ghost use Rattle.history_model.specs.Story.{Story};
-ghost use Rattle.journal_player.specs.Collected.{IsRightlyCollected};
+ghost use Rattle.cluster_course.specs.Collected.{IsRightlyCollected};
 ghost use Rattle.journal_model.specs.Journals.{journal_of};
 ghost use Rattle.journal_model.specs.Verdicts.{report_text};
 ghost use Rattle.cluster_top.specs.Outcome.{CameTo, IsOutcome, IsWritten};

@@ -1,31 +1,13 @@
 -- The lines that are due.
-use Rattle.std.proofs.Common.{◌≡◌, ◌<◌, ◌≤◌, ◌+◌, ◌-◌, ℕ, suc, List, [], ◌∷◌, length, take, drop, map, get_or, reverse, slice_get, MatchOption, Some, Option, option_map, sym, ◌∙◌, ap, subst, inl, inr, arith}
+use Rattle.std.proofs.Common.{◌≡◌, ◌<◌, ◌+◌, ℕ, suc, List, ◌∷◌, [], length, drop, map, get_or, slice_get, MatchOption, Some, Option, option_map, sym, ◌∙◌, ap, inl, inr}
 use Rattle.std.proofs.Math.Seq.{drop-cons}
 use Rattle.std.proofs.lemmas.Bool.{cases_lt}
-use Rattle.std.proofs.lemmas.List.{drop_all, drop-drop, get_or-reverse, get_or-take, length-reverse, length-take-le}
-use Rattle.std.proofs.lemmas.List.FromFn.{fill_by_all}
-use Rattle.std.proofs.lemmas.Option.{get_or_from_slice_get, slice_get_past, slice_get_within, slice_get-get_or, slice_get-map}
-use Rattle.crgc_ids.specs.Nodes.{nodes_below}
-use Rattle.history_model.specs.declared.events.Event.{Event}
-use Rattle.history_model.specs.declared.events.Event.TheVariants.{Sweep}
+use Rattle.std.proofs.lemmas.List.{drop_all, drop-drop}
+use Rattle.std.proofs.lemmas.Option.{slice_get_past, slice_get-get_or, slice_get-map}
 use Rattle.history_model.specs.declared.records.Stop.{Stop}
 use Rattle.history_model.specs.declared.records.Verdict.{Verdict}
-use Rattle.history_model.specs.Cluster.{Cluster}
-use Rattle.history_model.specs.Folds.{cut_at, folded, lost_of}
-use Rattle.history_model.specs.Sweeps.{IsVerdict}
-use Rattle.journal_model.specs.Lines.{cut_words, spell, stop_words}
-use Rattle.journal_model.specs.Report.{verdict_lines}
-use Rattle.journal_model.specs.Verdicts.{AreVerdicts}
-use Rattle.journal_player.specs.Following.{lines_made_due, lines_of_verdict}
-
--- the last of some things is the first of them in reverse
-pub first-reversed : {X : Type 0} (xs : List X) (x : X) → slice_get xs (length xs - 1) ≡ Some x → slice_get (reverse xs) 0 ≡ Some x
-first-reversed xs x is =
-    let within = slice_get_within xs (length xs - 1) x is in
-    let some : 0 < length xs = omega (arith, within) in
-    let place : length xs - 1 - 0 ≡ length xs - 1 = omega arith in
-    slice_get-get_or (reverse xs) 0 x (omega (arith, some, length-reverse xs))
-    ∙ ap Some (get_or-reverse xs 0 x some ∙ ap (λ k. get_or xs k x) place ∙ get_or_from_slice_get xs (length xs - 1) x x is)
+use Rattle.journal_model.specs.Lines.{spell, stop_words}
+use Rattle.cluster_course.specs.Due.{lines_of_verdict}
 
 -- the first line after some of them, if there is one
 pub due-first : (lines : List (List ℕ)) (told : ℕ) (line : Option (List ℕ)) → line ≡ slice_get lines told → MatchOption line (drop told lines ≡ []) (λ bytes. drop told lines ≡ bytes ∷ drop 1 (drop told lines))
@@ -48,28 +30,3 @@ stop-line nodes v k s within is =
     let rest : slice_get (map f v.stops) k ≡ Some (f s) =
     slice_get-map f v.stops k ∙ ap (option_map f) (slice_get-get_or v.stops k s within) ∙ ap (λ x. Some (f x)) (sym is) in
     sym rest
-
--- ---- the lines of the last verdict
-
-cut-taken : (cl : Cluster) (m : ℕ) (p : List Event) (v : Verdict) → IsVerdict cl m p v → cl.nodes ≤ length v.cut → take cl.nodes v.cut ≡ map (cut_at cl m p) (nodes_below cl.nodes)
-cut-taken cl m p v is within =
-    fill_by_all (cut_at cl m p) (take cl.nodes v.cut) cl.nodes 0 (length-take-le cl.nodes v.cut within)
-    (λ k below. get_or-take cl.nodes v.cut k 0 below ∙ is.cut k below)
-
--- the lines of a verdict are those that its sweep makes due
-verdict-due : (cl : Cluster) (m : ℕ) (p : List Event) (v : Verdict) → IsVerdict cl m p v → cl.nodes ≤ length v.cut → verdict_lines cl m p ≡ lines_of_verdict cl.nodes v
-verdict-due cl m p v is within =
-    let lines : ℕ → List ℕ → List ℕ → List Stop → List (List ℕ) = λ n cut lost stops. spell (cut_words n cut lost) ∷ map (λ s. spell (stop_words n s)) stops in
-    sym
-    (ap (λ n. lines n (take cl.nodes v.cut) v.lost v.stops) is.node ∙ ap (λ cut. lines m cut v.lost v.stops) (cut-taken cl m p v is within)
-    ∙ ap (λ lost. lines m (map (cut_at cl m p) (nodes_below cl.nodes)) lost v.stops) is.lost
-    ∙ ap (λ stops. lines m (map (cut_at cl m p) (nodes_below cl.nodes)) (lost_of cl (folded cl m p)) stops) is.stops)
-
--- the last verdict is that of a sweep that is the last event
-pub last-made_due : (cl : Cluster) (m : ℕ) (h : List Event) (rs : List Verdict) (v : Verdict) → AreVerdicts cl h rs → slice_get h 0 ≡ Some (Sweep m) → slice_get rs 0 ≡ Some v → cl.nodes ≤ length v.cut → lines_made_due cl h ≡ lines_of_verdict cl.nodes v
-last-made_due cl m [] rs v are event verdict within = absurd (cc)
-last-made_due cl m (Sweep n ∷ p) [] v are event verdict within = absurd are
-last-made_due cl m (Sweep n ∷ p) (w ∷ rs) v are event verdict within =
-    let same : w ≡ v = cc in
-    verdict-due cl n p v (subst (IsVerdict cl n p) same are.0) within
-last-made_due cl m (_ ∷ p) rs v are event verdict within = absurd (cc)

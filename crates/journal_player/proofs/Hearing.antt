@@ -7,7 +7,7 @@ use Rattle.journal_model.specs.declared.lines.Line.{Line}
 use Rattle.journal_model.specs.declared.lines.Line.TheVariants as said
 use Rattle.journal_model.specs.Journals.{Fault, Replay, after_told, differs}
 use Rattle.journal_model.specs.Lines.{IsPrintable}
-use Rattle.journal_player.specs.Course.{LineCarriesFew}
+use Rattle.journal_player.specs.Hearing.{LineCarriesFew}
 
 -- a line that may be printed carries few references
 pub few-printed : (l : Line) → IsPrintable l → LineCarriesFew l

@@ -2,9 +2,6 @@ pub mod LinesLemmas
 pub mod HeaderLaws
 pub mod DueLines
 pub mod Outcomes
-pub mod Stops
 pub mod Replaying
 pub mod Journals
-pub mod CollectedLemmas
-pub mod Courses
 pub mod Hearing

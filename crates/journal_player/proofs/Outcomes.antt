@@ -1,42 +1,24 @@
--- What a world answers, against what the definition says of the line.
-use Rattle.std.proofs.Common.{◌≡◌, Option, Some, None, Result, Ok, Err, refl, subst}
-use Rattle.std.specs.Prelude.{IfOk, unwrap_or}
-use Rattle.crgc_ids.specs.declared.NoMemory.{NoMemory}
+-- What hinders an event, against what the definition says of its line.
+use Rattle.std.proofs.Common.{◌≡◌, ◌∷◌, Option, Some, None, Result, Ok, refl, ap, ◌∙◌}
 use Rattle.crgc_ids.specs.declared.Which.{Which}
+use Rattle.history_model.specs.declared.events.Event.{Event}
 use Rattle.history_model.specs.declared.events.Rule.{Rule}
-use Rattle.journal_model.specs.Journals.{Replay, allowed}
-use Rattle.true_config.specs.Applying.{hindered}
-use Rattle.true_config.specs.declared.applied.Applied.{Applied}
-use Rattle.true_config.specs.declared.applied.Applied.TheVariants.{Done, Illegal, Limit as Limited}
-use Rattle.true_config.specs.declared.applied.Told.{Told}
-use Rattle.journal_player.specs.Course.{outcome_of}
-use Rattle.journal_player.specs.Faults.{IsHalt}
-use Rattle.journal_player.specs.declared.fault.Cause.TheVariants.{Rule as Broken}
-use Rattle.journal_player.specs.declared.fault.Halt.{Halt}
-use Rattle.journal_player.specs.declared.fault.Halt.TheVariants as halts
+use Rattle.history_model.specs.Legal.{refusal}
+use Rattle.history_model.specs.Story.{Story}
+use Rattle.journal_model.specs.Journals.{Fault, Replay, allowed, limit}
+use Rattle.journal_model.specs.Limits.{limit_passed}
+use Rattle.true_config.specs.Steps.{MayFollow}
+use Rattle.cluster_course.specs.Halting.{IsHalt as IsHindrance}
+use Rattle.cluster_course.specs.declared.halt.Halt.{Halt as Hindrance}
+use Rattle.cluster_course.specs.declared.halt.Halt.TheVariants as hindrances
+use Rattle.journal_player.specs.Faults.{IsHalt, halt_of}
 
--- where it did what it was asked, nothing hinders the event
-pub done-free : (o : Option Rule) (l : Option Which) (t : Told) (r : Result Applied NoMemory) (u : Unit {0}) → IfOk r (λ x. x ≡ unwrap_or (hindered o l) (Done t)) → outcome_of r ≡ Ok u → (o ≡ None) × (l ≡ None)
-done-free (Some b) l t (Ok (Done told)) u is done = absurd (cc)
-done-free None (Some w) t (Ok (Done told)) u is done = absurd (cc)
-done-free None None t (Ok (Done told)) u is done = (refl, refl)
-done-free o l t (Ok (Illegal b)) u is done = absurd (cc)
-done-free o l t (Ok (Limited w)) u is done = absurd (cc)
-done-free o l t (Err e) u is done = absurd (cc)
+-- the event is hindered, so its line is at fault
+pub hindered-halts : (e : Event) (s : Story) (h : Hindrance) (next : Replay) → IsHindrance h e s → IsHalt (halt_of h) (allowed (refusal s.cluster e s.past) (limit_passed s.cluster e s.past) next)
+hindered-halts e s (hindrances.Rule broken) next is = ap (λ o. allowed o (limit_passed s.cluster e s.past) next) is
+hindered-halts e s (hindrances.Limit which) next is = ap (λ o. allowed o (limit_passed s.cluster e s.past) next) is.0 ∙ ap (λ l. allowed None l next) is.1
+hindered-halts e s hindrances.NoMemory next is = tt
 
--- where it did not, that is what the definition says, unless memory ran out
-pub halts-so : (o : Option Rule) (l : Option Which) (t : Told) (r : Result Applied NoMemory) (h : Halt) → IfOk r (λ x. x ≡ unwrap_or (hindered o l) (Done t)) → outcome_of r ≡ Err h → (next : Replay) → IsHalt h (allowed o l next)
-halts-so o l t (Ok (Done told)) h is halt next = absurd (cc)
-halts-so (Some b) l t (Ok (Illegal broken)) h is halt next =
-    let same : halts.Cause (Broken b) ≡ h = cc in
-    subst (λ x. IsHalt x (allowed (Some b) l next)) same refl
-halts-so None (Some w) t (Ok (Illegal broken)) h is halt next = absurd (cc)
-halts-so None None t (Ok (Illegal broken)) h is halt next = absurd (cc)
-halts-so (Some b) l t (Ok (Limited which)) h is halt next = absurd (cc)
-halts-so None (Some w) t (Ok (Limited which)) h is halt next =
-    let same : halts.Limit w ≡ h = cc in
-    subst (λ x. IsHalt x (allowed None (Some w) next)) same refl
-halts-so None None t (Ok (Limited which)) h is halt next = absurd (cc)
-halts-so o l t (Err e) h is halt next =
-    let same : halts.NoMemory ≡ h = cc in
-    subst (λ x. IsHalt x (allowed o l next)) same tt
+-- nothing hinders it
+pub followed-allowed : (e : Event) (s : Story) (next : Replay) → MayFollow e s → allowed (refusal s.cluster e s.past) (limit_passed s.cluster e s.past) next ≡ Ok next
+followed-allowed e s next may = ap (λ o. allowed o (limit_passed s.cluster e s.past) next) may.legal ∙ ap (λ l. allowed None l next) may.limit

@@ -3,6 +3,8 @@ use Rattle.std.specs.Prelude.{ℕ, ◌≡◌, Result, Err}
 use Rattle.journal_model.specs.declared.lines.LineFault.{LineFault}
 use Rattle.journal_model.specs.declared.lines.LineFault.TheVariants as lines
 use Rattle.journal_model.specs.Journals.{Fault, header, spelling, after_end, rule, limit, differs}
+use Rattle.cluster_course.specs.declared.halt.Halt.{Halt as Hindrance}
+use Rattle.cluster_course.specs.declared.halt.Halt.TheVariants as hindrances
 use Rattle.journal_player.specs.declared.fault.Cause.{Cause}
 use Rattle.journal_player.specs.declared.fault.Cause.TheVariants.{Header, Word, Field, Extra, Differs, AfterEnd, Rule}
 use Rattle.journal_player.specs.declared.fault.Halt.{Halt}
@@ -25,6 +27,12 @@ abbrev pub cause_of : LineFault → Cause
 cause_of lines.Word = Word
 cause_of lines.Field = Field
 cause_of lines.Extra = Extra
+
+-- why a line is not followed whose event is hindered so
+abbrev pub halt_of : Hindrance → Halt
+halt_of (hindrances.Rule broken) = halts.Cause (Rule broken)
+halt_of (hindrances.Limit which) = halts.Limit which
+halt_of hindrances.NoMemory = halts.NoMemory
 
 -- what follows a line is the fault for which the code halts there; want of memory says nothing
 abbrev pub IsHalt : {R : Type 0} → Halt → Result R Fault → Type 0

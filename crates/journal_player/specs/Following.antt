@@ -1,20 +1,13 @@
 -- What was read of a journal, with the cluster of its header.
-use Rattle.std.specs.Prelude.{ℕ, Bool, false, List, [], ◌∷◌, drop, map, take}
-use Rattle.history_model.specs.declared.events.Event.{Event}
-use Rattle.history_model.specs.declared.records.Verdict.{Verdict}
+use Rattle.std.specs.Prelude.{ℕ, Bool, false, [], drop}
 use Rattle.history_model.specs.Cluster.{Cluster}
 use Rattle.history_model.specs.Story.{Story}
-use Rattle.journal_model.specs.Journals.{Replay, due_after}
-use Rattle.journal_model.specs.Lines.{cut_words, spell, stop_words}
+use Rattle.journal_model.specs.Journals.{Replay}
+use Rattle.cluster_course.specs.Due.{lines_made_due}
 
 pub record Following : Type 0 where
   pub cluster : Cluster
   pub replay : Replay
-
--- the lines that the last event made due
-abbrev pub lines_made_due : Cluster → List Event → List (List ℕ)
-lines_made_due cl [] = []
-lines_made_due cl (e ∷ p) = due_after cl e p
 
 -- before the first event
 abbrev pub start : Replay
@@ -23,7 +16,3 @@ start = record { past = []; due = []; ended = false }
 -- so many of the lines that the last event made due were read
 abbrev pub following : Story → ℕ → Bool → Following
 following s told over = record { cluster = s.cluster; replay = record { past = s.past; due = drop told (lines_made_due s.cluster s.past); ended = over } }
-
--- the lines of a verdict in a cluster of so many nodes
-abbrev pub lines_of_verdict : ℕ → Verdict → List (List ℕ)
-lines_of_verdict nodes v = spell (cut_words v.node (take nodes v.cut) v.lost) ∷ map (λ s. spell (stop_words v.node s)) v.stops

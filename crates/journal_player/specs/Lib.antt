@@ -1,4 +1,3 @@
 pub mod Faults
 pub mod Following
-pub mod Course
-pub mod Collected
+pub mod Hearing

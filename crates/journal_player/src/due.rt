@@ -1,7 +1,7 @@
 //! The lines that a verdict makes due, one at a time.
 ghost use Rattle.std.specs.Prelude.{◌≡◌, ◌≤◌, ◌<◌, ◌+◌, ◌^◌, slice_get, take, IfOk, IfSome};
 ghost use Rattle.journal_model.specs.Lines.{cut_words, spell, stop_words};
-ghost use Rattle.journal_player.specs.Following.{lines_of_verdict};
+ghost use Rattle.cluster_course.specs.Due.{lines_of_verdict};
 
 use crgc_ids::{NoMemory, Octets};
 use event_lines::{append_verdict, print};

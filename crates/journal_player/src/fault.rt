@@ -1,6 +1,6 @@
 //! Why a journal is not played to its end.
 ghost use Rattle.std.specs.Prelude.{◌≡◌};
-ghost use Rattle.journal_player.specs.Faults.{cause_of, fault_at};
+ghost use Rattle.journal_player.specs.Faults.{cause_of, fault_at, halt_of};
 
 use crgc_ids::{NoMemory, Which};
 use event_lines::LineRead;
@@ -75,6 +75,18 @@ impl From<NoMemory> for Halt {
 
     fn from(_: NoMemory) -> Halt {
         Halt::NoMemory
+    }
+}
+
+impl From<cluster_course::Halt> for Halt {
+    ghost from_gives = { λ halt h. h ≡ halt_of halt };
+
+    fn from(halt: cluster_course::Halt) -> Halt {
+        match halt {
+            cluster_course::Halt::Rule(rule) => Halt::Cause(Cause::Rule(rule)),
+            cluster_course::Halt::Limit(which) => Halt::Limit(which),
+            cluster_course::Halt::NoMemory => Halt::NoMemory,
+        }
     }
 }
 

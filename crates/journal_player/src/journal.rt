@@ -1,8 +1,9 @@
 //! Playing a journal: from its bytes to its report.
-ghost use Rattle.std.specs.Prelude.{◌≡◌, ◌≤◌, length, Ok, IfOk, IfErr};
+ghost use Rattle.std.specs.Prelude.{◌≡◌, ◌≤◌, length, Ok, IfOk, IfErr, OnOk};
+ghost use Rattle.history_model.specs.Legal.{IsLegal};
 ghost use Rattle.history_model.specs.Story.{Story};
-ghost use Rattle.journal_player.specs.Collected.{IsRightlyCollected};
-ghost use Rattle.journal_model.specs.Journals.{after_lines, journal_of};
+ghost use Rattle.cluster_course.specs.Collected.{IsRightlyCollected};
+ghost use Rattle.journal_model.specs.Journals.{Replay, after_lines, journal_of};
 ghost use Rattle.journal_model.specs.Lines.{lines_of};
 ghost use Rattle.journal_model.specs.Verdicts.{report_text};
 ghost use Rattle.journal_player.specs.Faults.{IsPlayFault};
@@ -11,6 +12,7 @@ use crate::fault::{Cause, PlayFault};
 use crate::header::read_header;
 use crate::lines::next_line;
 use crate::player::Player;
+use cluster_course::laws::a_legal_history_is_rightly_collected;
 use crgc_ids::Which;
 use std::alloc::Global;
 
@@ -35,29 +37,45 @@ pub fn play(alloc: Global, text: &[u8], brief: bool) -> Result<Vec<u8>, PlayFaul
     let Some((nodes, version)) = read_header(first) else {
         return Err(NO_HEADER);
     };
-    match follow_all(alloc, Player::begin(alloc, nodes, version)?, rest) {
-        Ok(player) => Ok(player.report(alloc, brief)?),
+    a_legal_history_is_rightly_collected();
+    let mut player = Player::begin(alloc, nodes, version)?;
+    report_of(alloc, &mut player, rest, brief)
+}
+
+/// The report after all lines of the text, of which the first is line 2, or the first fault.
+fn report_of(
+    alloc: Global,
+    player: &mut Player,
+    text: &[u8],
+    brief: bool,
+) -> Result<Vec<u8>, PlayFault>
+    requires { length text.now ≤ 16777216 }
+    ensures report { IfOk result (λ bytes. (r : Replay) × (after_lines player.old.cluster 2 player.old.replay (lines_of text.now) ≡ Ok r)
+        × IsLegal player.old.cluster r.past × (bytes.items ≡ report_text player.old.cluster r.past brief)) }
+    ensures fault { IfErr result (λ f. IsPlayFault f (after_lines player.old.cluster 2 player.old.replay (lines_of text.now))) }
+{
+    match follow_all(alloc, player, text) {
+        Ok(()) => Ok(player.report(alloc, brief)?),
         Err(fault) => Err(fault),
     }
 }
 
-/// With all lines of the text, of which the first is line 2, or the first fault.
-fn follow_all(alloc: Global, player: Player, text: &[u8]) -> Result<Player, PlayFault>
+/// All lines of the text are followed, of which the first is line 2, or the answer is the first fault.
+fn follow_all(alloc: Global, player: &mut Player, text: &[u8]) -> Result<(), PlayFault>
     requires { length text.now ≤ 16777216 }
-    ensures cluster { IfOk result (λ p. p.cluster ≡ player.cluster) }
-    ensures ok { IfOk result (λ p. after_lines player.cluster 2 player.replay (lines_of text.now) ≡ Ok p.replay) }
-    ensures fault { IfErr result (λ f. IsPlayFault f (after_lines player.cluster 2 player.replay (lines_of text.now))) }
+    ensures cluster { player.new.cluster ≡ player.old.cluster }
+    ensures ok { OnOk result (after_lines player.old.cluster 2 player.old.replay (lines_of text.now) ≡ Ok player.new.replay) }
+    ensures fault { IfErr result (λ f. IsPlayFault f (after_lines player.old.cluster 2 player.old.replay (lines_of text.now))) }
 {
-    let mut player = player;
     let mut rest = text;
     let mut number = 2;
     while let Some((line, more)) = next_line(rest) {
-        player = match player.follow(alloc, line) {
-            Ok(next) => next,
+        match player.follow(alloc, line) {
+            Ok(()) => {}
             Err(halt) => return Err(halt.at(number)),
-        };
+        }
         rest = more;
         number += 1;
     }
-    Ok(player)
+    Ok(())
 }

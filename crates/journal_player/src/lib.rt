@@ -1,7 +1,6 @@
 //! Playing a journal: from its bytes to its report, or to its first fault.
 #![tactic(auto)]
 
-mod course;
 mod due;
 mod fault;
 mod header;

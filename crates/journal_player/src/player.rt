@@ -1,16 +1,17 @@
 //! Following a journal line by line.
-ghost use Rattle.std.specs.Prelude.{◌≡◌, ◌≤◌, ◌<◌, ◌+◌, ◌^◌, slice_get, Ok, IfOk, IfErr, IfSome};
+ghost use Rattle.std.specs.Prelude.{◌≡◌, ◌≤◌, ◌<◌, ◌+◌, ◌^◌, slice_get, Ok, IfOk, IfErr, IfSome, OnOk};
 ghost use Rattle.history_model.specs.Legal.{IsLegal};
 ghost use Rattle.journal_model.specs.Journals.{after_counts, after_event, after_line, after_said, after_told};
 ghost use Rattle.journal_model.specs.Verdicts.{report_text};
 ghost use Rattle.true_config.specs.Applying.{CarriesFew};
+ghost use Rattle.cluster_course.specs.Due.{lines_made_due};
 ghost use Rattle.journal_player.specs.Faults.{IsHalt};
-ghost use Rattle.journal_player.specs.Course.{LineCarriesFew};
-ghost use Rattle.journal_player.specs.Following.{lines_made_due, start};
+ghost use Rattle.journal_player.specs.Following.{start};
+ghost use Rattle.journal_player.specs.Hearing.{LineCarriesFew};
 
-use crate::course::Course;
 use crate::due::verdict_line;
 use crate::fault::{Cause, Halt};
+use cluster_course::Course;
 use crgc_ids::{NoMemory, Octets};
 use event_lines::{LineRead, read};
 use history_model::Event;
@@ -52,12 +53,12 @@ impl Player {
         })
     }
 
-    /// With the next line, or its fault. An event in the time that the world and the collectors take for it, any other line in
-    /// linear time, and an end line in constant time.
-    pub fn follow(self, alloc: Global, line: &[u8]) -> Result<Player, Halt>
-        ensures cluster { IfOk result (λ p. p.cluster ≡ self.cluster) }
-        ensures ok { IfOk result (λ p. after_line self.cluster self.replay line.now ≡ Ok p.replay) }
-        ensures halt { IfErr result (λ h. IsHalt h (after_line self.cluster self.replay line.now)) }
+    /// The next line is followed, or the answer is its fault; then all is as before. An event in the time that the world and the
+    /// collectors take for it, any other line in linear time, and an end line in constant time.
+    pub fn follow(&mut self, alloc: Global, line: &[u8]) -> Result<(), Halt>
+        ensures cluster { self.new.cluster ≡ self.old.cluster }
+        ensures ok { OnOk result (after_line self.old.cluster self.old.replay line.now ≡ Ok self.new.replay) }
+        ensures halt { IfErr result (λ h. IsHalt h (after_line self.old.cluster self.old.replay line.now)) }
     {
         let said = match read(alloc, line) {
             Ok(said) => said,
@@ -70,12 +71,12 @@ impl Player {
         self.hear(alloc, line, said)
     }
 
-    /// With what the next line says.
-    fn hear(self, alloc: Global, line: &[u8], said: Line) -> Result<Player, Halt>
+    /// What the next line says is followed.
+    fn hear(&mut self, alloc: Global, line: &[u8], said: Line) -> Result<(), Halt>
         requires few { LineCarriesFew said }
-        ensures cluster { IfOk result (λ p. p.cluster ≡ self.cluster) }
-        ensures ok { IfOk result (λ p. after_said self.cluster self.replay line.now said ≡ Ok p.replay) }
-        ensures halt { IfErr result (λ h. IsHalt h (after_said self.cluster self.replay line.now said)) }
+        ensures cluster { self.new.cluster ≡ self.old.cluster }
+        ensures ok { OnOk result (after_said self.old.cluster self.old.replay line.now said ≡ Ok self.new.replay) }
+        ensures halt { IfErr result (λ h. IsHalt h (after_said self.old.cluster self.old.replay line.now said)) }
     {
         match said {
             Line::Event(event) => self.happen(event),
@@ -85,56 +86,50 @@ impl Player {
         }
     }
 
-    /// With an event, after which only the lines of its verdict are due.
-    fn happen(self, event: Event) -> Result<Player, Halt>
+    /// An event, after which only the lines of its verdict are due.
+    fn happen(&mut self, event: Event) -> Result<(), Halt>
         requires few { CarriesFew event }
-        ensures cluster { IfOk result (λ p. p.cluster ≡ self.cluster) }
-        ensures ok { IfOk result (λ p. after_event self.cluster self.replay event ≡ Ok p.replay) }
-        ensures halt { IfErr result (λ h. IsHalt h (after_event self.cluster self.replay event)) }
+        ensures cluster { self.new.cluster ≡ self.old.cluster }
+        ensures ok { OnOk result (after_event self.old.cluster self.old.replay event ≡ Ok self.new.replay) }
+        ensures halt { IfErr result (λ h. IsHalt h (after_event self.old.cluster self.old.replay event)) }
     {
         match self.course.follow(event) {
-            Ok(course) => Ok(Player {
-                course,
-                told: 0,
-                ended: false,
-            }),
-            Err(halt) => Err(halt),
+            Ok(_) => {
+                self.told = 0;
+                self.ended = false;
+                Ok(())
+            }
+            Err(halt) => Err(Halt::from(halt)),
         }
     }
 
-    /// With a line that is the one that is due.
-    fn repeat(self, alloc: Global, line: &[u8]) -> Result<Player, Halt>
-        ensures cluster { IfOk result (λ p. p.cluster ≡ self.cluster) }
-        ensures ok { IfOk result (λ p. after_told self.replay self.replay.due line.now ≡ Ok p.replay) }
-        ensures halt { IfErr result (λ h. IsHalt h (after_told self.replay self.replay.due line.now)) }
+    /// A line that is the one that is due.
+    fn repeat(&mut self, alloc: Global, line: &[u8]) -> Result<(), Halt>
+        ensures cluster { self.new.cluster ≡ self.old.cluster }
+        ensures ok { OnOk result (after_told self.old.replay self.old.replay.due line.now ≡ Ok self.new.replay) }
+        ensures halt { IfErr result (λ h. IsHalt h (after_told self.old.replay self.old.replay.due line.now)) }
     {
         let Some(due) = due_line(alloc, &self.course, self.told)? else {
             return Err(Halt::Cause(Cause::Differs));
         };
         if due.as_slice() == line {
-            return Ok(Player {
-                course: self.course,
-                told: self.told + 1,
-                ended: self.ended,
-            });
+            self.told += 1;
+            return Ok(());
         }
         Err(Halt::Cause(Cause::Differs))
     }
 
-    /// With an end line that has the counts so far.
-    fn end(self, events: u32, stopped: u32) -> Result<Player, Halt>
-        ensures cluster { IfOk result (λ p. p.cluster ≡ self.cluster) }
-        ensures ok { IfOk result (λ p. after_counts self.cluster self.replay events stopped ≡ Ok p.replay) }
-        ensures halt { IfErr result (λ h. IsHalt h (after_counts self.cluster self.replay events stopped)) }
+    /// An end line that has the counts so far.
+    fn end(&mut self, events: u32, stopped: u32) -> Result<(), Halt>
+        ensures cluster { self.new.cluster ≡ self.old.cluster }
+        ensures ok { OnOk result (after_counts self.old.cluster self.old.replay events stopped ≡ Ok self.new.replay) }
+        ensures halt { IfErr result (λ h. IsHalt h (after_counts self.old.cluster self.old.replay events stopped)) }
     {
         if events as u64 != self.course.len() || stopped as u64 != self.course.stopped() {
             return Err(Halt::Cause(Cause::Differs));
         }
-        Ok(Player {
-            course: self.course,
-            told: self.told,
-            ended: true,
-        })
+        self.ended = true;
+        Ok(())
     }
 
     /// The report, in brief or in full. Linear in the events, the verdicts and the text.

@@ -1,3 +1,4 @@
-pub mod WithinLemmas
 pub mod BulletinLemmas
 pub mod StandLemmas
+pub mod WithinLemmas
+pub mod WantedLemmas

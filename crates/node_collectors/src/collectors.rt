@@ -1,5 +1,6 @@
 //! The collectors.
-ghost use Rattle.std.specs.Prelude.{◌≡◌, ◌∷◌, ◌<◌, ◌≤◌, [], Some, drop, length, slice_get, IfOk, OnErr, OnOk};
+ghost use Rattle.std.specs.Prelude.{◌≡◌, ◌∷◌, ◌<◌, ◌≤◌, [], List, Some, drop, length, slice_get, IfOk, OnErr, OnOk};
+ghost use Rattle.history_model.specs.declared.events.Event.{Event};
 ghost use Rattle.history_model.specs.declared.events.Event.TheVariants as events;
 ghost use Rattle.history_model.specs.Cluster.{Cluster};
 ghost use Rattle.history_model.specs.Streams.{stream};
@@ -9,6 +10,7 @@ ghost use Rattle.collector.specs.declared.read.TakeFault.TheVariants as faults;
 ghost use Rattle.collector.specs.Collected.{IsSettled};
 ghost use Rattle.collector.specs.Taking.{IsOfStreams};
 ghost use Rattle.node_collectors.specs.Standing.{AreCollectorsAt, IsRead, SweepsOut};
+ghost use Rattle.node_collectors.specs.Wanted.{IsFirstUnhanded};
 
 use crate::spelling::is_spellable;
 use bulletin_streams::laws::bulletins_fit_the_wire;
@@ -87,6 +89,15 @@ impl NodeCollectors {
     {
         world.is_lawful();
         sweep_out(&mut self.rows[node.get() as usize])
+    }
+
+    /// The first number, from 0 on, under which no bulletin of the origin was handed to the node, in each history at which the
+    /// collectors stand. Logarithmic time in the number of bulletins that wait there, for each that waits and may be folded next.
+    pub fn wants(&self, to: NodeId, origin: NodeId) -> u32
+        requires { to < length self.now }
+        ensures { (cl : Cluster) (h : List Event) → AreCollectorsAt cl h self.now → origin < cl.nodes → IsFirstUnhanded to origin h result }
+    {
+        self.rows[to.get() as usize].wants(origin)
     }
 }
 

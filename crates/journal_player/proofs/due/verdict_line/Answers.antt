@@ -1,6 +1,6 @@
 use Rattle.std.proofs.Common.{◌≡◌, ◌<◌, ◌-◌, suc, length, get_or, slice_get, Some, List, sym, ◌∙◌, ap, subst, arith}
 use Rattle.history_model.specs.declared.records.Stop.{Stop}
-use Rattle.journal_player.specs.Following.{lines_of_verdict}
+use Rattle.cluster_course.specs.Due.{lines_of_verdict}
 use Rattle.journal_player.proofs.DueLines.{stop-line}
 use Rattle.journal_player.proofs.due.verdict_line.Goals as goal
 

@@ -3,7 +3,8 @@ use Rattle.std.proofs.lemmas.Bool.{false≢true}
 use Rattle.std.proofs.lemmas.Bool.Decides.{Decides-eqb}
 use Rattle.std.proofs.lemmas.Slice.Eq.{slice_eq-Decides}
 use Rattle.journal_model.specs.Journals.{Replay, after_told, differs}
-use Rattle.journal_player.specs.Following.{Following, following, lines_made_due}
+use Rattle.cluster_course.specs.Due.{lines_made_due}
+use Rattle.journal_player.specs.Following.{Following, following}
 use Rattle.journal_player.proofs.DueLines.{due-first, due-next}
 use Rattle.journal_player.proofs.Hearing.{told-none, told-other, told-same}
 use Rattle.journal_player.proofs.player.Player.repeat.Goals as goal

@@ -1,0 +1,5 @@
+pub mod Outcomes
+pub mod Stops
+pub mod CollectedLemmas
+pub mod Courses
+pub mod LastVerdict

@@ -1,0 +1,4 @@
+pub mod Collected
+pub mod Halting
+pub mod Due
+pub mod Course

@@ -1,0 +1,9 @@
+//! The course of a cluster: its history as it goes on, with the collectors of its nodes and the verdicts of its sweeps.
+#![tactic(auto)]
+
+mod course;
+mod halt;
+pub mod laws;
+
+pub use course::Course;
+pub use halt::Halt;

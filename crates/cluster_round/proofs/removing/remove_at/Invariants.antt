@@ -1,0 +1,10 @@
+use Rattle.std.proofs.Common.{◌≡◌}
+use Rattle.history_model.specs.declared.events.Event.TheVariants.{Remove}
+use Rattle.run_model.specs.Round.{each, tried}
+use Rattle.cluster_round.proofs.removing.remove_at.Given as goal
+
+abbrev pub invariant-loop-number : goal.invariant-loop-number
+invariant-loop-number l = record {
+  cluster : l.course.cluster ≡ l.fn.course.cluster;
+  past : l.course.past ≡ each (λ n. tried l.fn.course.cluster (Remove l.fn.at n)) l.number l.fn.course.past;
+}

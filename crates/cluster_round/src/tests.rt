@@ -1,0 +1,60 @@
+//! A worked round in the midst of a turn, with ample memory.
+ghost use Rattle.true_config.specs.Applying.{CarriesFew};
+
+use crate::round;
+use cluster_course::Course;
+use crgc_ids::{ActorId, NodeId};
+use history_model::Event;
+use std::alloc::Global;
+use std::process::Abort;
+use std::test::Fail;
+
+fn follow(course: &mut Course, event: Event) -> Result<(), Fail>
+    requires { CarriesFew event }
+{
+    match course.follow(event) {
+        Ok(_) => Ok(()),
+        Err(_) => Err(Fail::new("hindered")),
+    }
+}
+
+/// An actor tells of itself before and in its turn, and the second bulletin is handed before the first.
+fn begin_turn(course: &mut Course, actor: ActorId) -> Result<(), Fail> {
+    let node = actor.node();
+    follow(course, Event::Seed { node })?;
+    follow(course, Event::Flush { actor })?;
+    follow(course, Event::Publish { node })?;
+    follow(course, Event::Wake { actor })?;
+    follow(course, Event::Flush { actor })?;
+    follow(course, Event::Publish { node })?;
+    let hand = Event::Hand {
+        to: node,
+        origin: node,
+        number: 1,
+    };
+    follow(course, hand)
+}
+
+/// How many events the course has after a round.
+fn after_round(course: &mut Course) -> Result<u64, Fail> {
+    match round(course) {
+        Ok(()) => Ok(course.len()),
+        Err(_) => Err(Fail::new("halted")),
+    }
+}
+
+#[test]
+fn a_round_tells_hands_and_sweeps_what_is_left(rt: HostRuntime) -> Result<(), Fail> {
+    let node = NodeId::new(0).ok_or("node 0")?;
+    let actor = ActorId::new(node, 0).ok_or("0.0")?;
+    let child = ActorId::new(node, 1).ok_or("0.1")?;
+    let Ok(mut course) = Course::begin(rt.alloc(), 1, 2) else {
+        return Err(Fail::new("no memory"));
+    };
+    begin_turn(&mut course, actor)?;
+    follow(&mut course, Event::Spawn { parent: actor })?;
+    follow(&mut course, Event::Flush { actor: child })?;
+    assert_eq!(rt; after_round(&mut course)?, 14);
+    assert_eq!(rt; after_round(&mut course)?, 15);
+    Ok(())
+}
