@@ -1,10 +1,11 @@
 -- The command that words are read as, and the words that spell it.
-use Rattle.std.proofs.Common.{◌≡◌, ◌⊎◌, ◌↔◌, inl, inr, ℕ, nat_lt, IsTrue, Bool, true, false, List, [], ◌∷◌, Option, Some, None, refl, sym, ◌∙◌, ap, subst, arith}
+use Rattle.std.proofs.Common.{◌≡◌, ◌≤◌, ◌⊎◌, ◌↔◌, inl, inr, ℕ, nat_lt, IsTrue, Bool, true, false, List, [], ◌∷◌, Option, Some, None, refl, sym, ◌∙◌, ap, subst, arith}
 use Rattle.std.proofs.lemmas.Bool.{lt-ltb, ltb-true}
 use Rattle.std.proofs.lemmas.List.Sorted.{IsPermutation-append_comm, IsPermutation-refl}
 use Rattle.std.proofs.lemmas.Option.{none-some, option_and_then_some, same_Some}
 use Rattle.std.specs.List.Sorted.{IsPermutation}
-use Rattle.std.specs.Option.{MatchOption, option_and_then}
+use Rattle.std.specs.List.{AllByRecursion}
+use Rattle.std.specs.Option.{IfSome, MatchOption, option_and_then}
 use Rattle.std.specs.Prelude.{codes}
 use Rattle.command_words.specs.declared.command.Command.{Command}
 use Rattle.command_words.specs.declared.command.Command.TheVariants.{Play, Run, Gen}
@@ -12,7 +13,8 @@ use Rattle.command_words.specs.declared.reading.Settings.{Settings}
 use Rattle.command_words.specs.declared.reading.Settings.TheVariants.{Empty, One, Two}
 use Rattle.command_words.specs.declared.setting.Setting.{Setting}
 use Rattle.command_words.specs.declared.setting.Setting.TheVariants.{Brief, Workers, Seed, Size}
-use Rattle.command_words.specs.Commands.{AreSettings, IsCommand, Spells, WantsWorkers, name_of, settings_of}
+use Rattle.command_words.specs.declared.setting.TheConstants.{MOST_WORKERS, GREATEST_SIZE}
+use Rattle.command_words.specs.Commands.{AreSettings, IsCommand, IsInRange, IsSetting, Spells, WantsWorkers, name_of, settings_of}
 use Rattle.command_words.specs.Reading.{command_of, first_setting, gen_of, more_in, play_of, run_of, settings_in, two_in}
 use Rattle.command_words.proofs.OrderLaws.{order_of_none, order_of_one, order_of_two}
 use Rattle.command_words.proofs.SettingLaws.{Begins, by_name, first_setting-some, first_setting-spelled}
@@ -178,6 +180,43 @@ read-spelled words c h =
 pub from_read : (words : List (List ℕ)) (r : Option Command) → read_words words ≡ r → MatchOption r (¬ IsCommand words) (λ c. Spells words c)
 from_read words None e = λ h. none-some h.0 (sym e ∙ read-spelled words h.0 h.1)
 from_read words (Some c) e = read-some words c e
+
+-- ---- the ranges
+
+abbrev IsSettingInRange : Setting → Type 0
+IsSettingInRange Brief = Unit {0}
+IsSettingInRange (Workers n) = n ≤ MOST_WORKERS
+IsSettingInRange (Seed n) = Unit {0}
+IsSettingInRange (Size n) = (1 ≤ n) × (n ≤ GREATEST_SIZE)
+
+setting-in_range : (s : Setting) (words : List (List ℕ)) → IsSetting s words → IsSettingInRange s
+setting-in_range Brief words h = tt
+setting-in_range (Workers n) words h = h.0
+setting-in_range (Seed n) words h = tt
+setting-in_range (Size n) words h = (h.0, h.1)
+
+settings-in_range : (ss : List Setting) (words : List (List ℕ)) → AreSettings ss words → AllByRecursion IsSettingInRange ss
+settings-in_range [] words h = tt
+settings-in_range (s ∷ ss) words h = (setting-in_range s h.0 h.3, settings-in_range ss h.1 h.4)
+
+gen-in_range : (s z : ℕ) (settings : List Setting) → (settings ≡ Seed s ∷ Size z ∷ []) ⊎ (settings ≡ Size z ∷ Seed s ∷ []) → AllByRecursion IsSettingInRange settings → IsInRange (Gen s z)
+gen-in_range s z settings (inl e) h = (subst (AllByRecursion IsSettingInRange) e h).1.0
+gen-in_range s z settings (inr e) h = (subst (AllByRecursion IsSettingInRange) e h).0
+
+run-in_range : (w : ℕ) (settings : List Setting) → (settings ≡ Workers w ∷ Brief ∷ []) ⊎ (settings ≡ Brief ∷ Workers w ∷ []) → AllByRecursion IsSettingInRange settings → w ≤ MOST_WORKERS
+run-in_range w settings (inl e) h = (subst (AllByRecursion IsSettingInRange) e h).0
+run-in_range w settings (inr e) h = (subst (AllByRecursion IsSettingInRange) e h).1.0
+
+command-in_range : (c : Command) (settings : List Setting) → IsPermutation (settings_of c) settings → AllByRecursion IsSettingInRange settings → IsInRange c
+command-in_range (Play brief) settings p h = tt
+command-in_range (Run w false) settings p h = (subst (AllByRecursion IsSettingInRange) (order_of_one (Workers w) settings p) h).0
+command-in_range (Run w true) settings p h = run-in_range w settings (order_of_two (Workers w) Brief settings p) h
+command-in_range (Gen s z) settings p h = gen-in_range s z settings (order_of_two (Seed s) (Size z) settings p) h
+
+-- the numbers of a command that words spell are in range
+pub from_read-in_range : (words : List (List ℕ)) (r : Option Command) → MatchOption r (¬ IsCommand words) (λ c. Spells words c) → IfSome r (λ c. IsInRange c)
+from_read-in_range words None h = tt
+from_read-in_range words (Some c) h = command-in_range c h.settings h.in_any_order (settings-in_range h.settings h.options h.spelled)
 
 pub spells_one : (words : List (List ℕ)) (c d : Command) → Spells words c → Spells words d → c ≡ d
 spells_one words c d h k = same_Some c d (sym (read-spelled words c h) ∙ read-spelled words d k)

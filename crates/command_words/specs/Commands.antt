@@ -43,6 +43,12 @@ pub record Spells (words : List (List ℕ)) (c : Command) : Type 0 where
   pub in_any_order : IsPermutation (settings_of c) settings
   pub spelled : AreSettings settings options
 
+-- the numbers of a command are in their options' ranges
+abbrev pub IsInRange : Command → Type 0
+IsInRange (Play brief) = Unit {0}
+IsInRange (Run workers brief) = workers ≤ MOST_WORKERS
+IsInRange (Gen seed size) = (1 ≤ size) × (size ≤ GREATEST_SIZE)
+
 -- the words spell some command
 abbrev pub IsCommand : List (List ℕ) → Type 0
 IsCommand words = (c : Command) × Spells words c

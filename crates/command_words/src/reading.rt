@@ -1,6 +1,6 @@
 //! From the words to the command that they spell.
-ghost use Rattle.std.specs.Prelude.{◌≡◌, ◌≤◌, ◌↔◌, IsTrue, MatchOption, map, string_bytes};
-ghost use Rattle.command_words.specs.Commands.{IsCommand, Spells, WantsWorkers};
+ghost use Rattle.std.specs.Prelude.{◌≡◌, ◌≤◌, ◌↔◌, IfSome, IsTrue, MatchOption, map, string_bytes};
+ghost use Rattle.command_words.specs.Commands.{IsCommand, IsInRange, Spells, WantsWorkers};
 ghost use Rattle.command_words.specs.Reading.{command_of, gen_of, play_of, run_of, settings_in};
 
 use crate::command::Command;
@@ -9,7 +9,8 @@ use crate::setting::{Setting, first_setting};
 /// The command that the words spell; None exactly where they spell none. Linear time in the first few words; it takes no
 /// memory.
 pub fn read_command(words: &[String]) -> Option<Command>
-    ensures { MatchOption result (¬ IsCommand (map string_bytes words.now)) (λ command. Spells (map string_bytes words.now) command) }
+    ensures spelled { MatchOption result (¬ IsCommand (map string_bytes words.now)) (λ command. Spells (map string_bytes words.now) command) }
+    ensures in_range { IfSome result (λ command. IsInRange command) }
 {
     let (name, options) = words.split_first()?;
     named_command(name, all_settings(options)?)
