@@ -6,7 +6,7 @@
 - A fenced block that names a file after its language shows a part of that file, and a line `...` leaves lines out.
 - A link to a file of the repository, and to a heading, has to lead somewhere; so does a path in backquotes that begins with a
   folder of the repository.
-- Each file in examples/ is named by some document.
+- Each file in examples/ is named by some document, and the pictures are what scripts/draw-pictures draws.
 
 A command with `bin/crgc` is run on that program, or on the one that `rt ci` leaves in crates/crgc_main/out; where there is
 neither, it is skipped, and so is a command whose tool is missing. With --renew, output that differs is written into the
@@ -204,6 +204,8 @@ def main():
                 handle.write("\n".join(lines))
     for example in sorted(glob.glob("examples/*")):
         report.check(example in all_text, example, "no document names it")
+    drawn = subprocess.run(["scripts/draw-pictures", "--check"], stdout=subprocess.PIPE, stderr=subprocess.STDOUT)
+    report.check(drawn.returncode == 0, "docs/pictures", drawn.stdout.decode("utf-8", "replace").strip())
     return report.end()
 
 
