@@ -7,12 +7,11 @@
 - A link to a file of the repository, and to a heading, has to lead somewhere; so does a path in backquotes that begins with a
   folder of the repository.
 - Each file in examples/ is named by some document.
-- The pictures are what scripts/draw-pictures draws, and the marks of definitions those that scripts/mark-definitions sets.
-- In a table row that begins with a crate's name, paths that begin with src/ or specs/ are of that crate.
+- What other scripts make is what they make now: the pictures, the index of contracts, and the marks of definitions.
 
 A command with `bin/crgc` is run on that program, or on the one that `rt ci` leaves in crates/crgc_main/out; where there is
-neither, it is skipped, and so is a command whose tool is missing. With --renew, output, pictures and marks that differ are made
-anew; such a change is to be read before it is committed.
+neither, it is skipped, and so is a command whose tool is missing. With --renew, output that differs and what other scripts make are
+made anew; such a change is to be read before it is committed.
 
 The last line is 'N passed, M failed', and the status is 1 where something failed.
 """
@@ -28,7 +27,7 @@ LEFT_BY_GATE = "crates/crgc_main/out/crgc_main"
 FOLDERS = ("crates/", "docs/", "examples/", "scripts/", ".ci/")
 PATH = re.compile(r"`((?:crates|docs|examples|scripts|\.ci)/[^`\s*<>{}]*)`")
 LINK = re.compile(r"\]\(([^)\s]+)\)")
-MADE_BY_SCRIPTS = ("scripts/draw-pictures", "scripts/mark-definitions")
+MADE_BY_SCRIPTS = ("scripts/draw-pictures", "scripts/list-contracts", "scripts/mark-definitions")
 ANY_LINES = "..."
 
 
@@ -179,10 +178,6 @@ def check_links(name, lines, report):
             path = os.path.normpath(os.path.join(os.path.dirname(name), path)) if path else name
             good = os.path.exists(path) and (not heading or heading in heading_names(path))
             report.check(good, f"{name}:{number}", f"the link {target} leads nowhere")
-        row = re.match(r"\| `(\w+)` \|", line)
-        if row and os.path.isdir(f"crates/{row.group(1)}"):
-            for path in re.findall(r"`((?:src|specs|proofs)/[^`\s]*)`", line):
-                report.check(os.path.exists(f"crates/{row.group(1)}/{path}"), f"{name}:{number}", f"{row.group(1)} has no {path}")
         for path in PATH.findall(line):
             good = os.path.exists(path) or any(os.path.exists(path.split(mark)[0]) for mark in (" ", "::") if mark in path)
             report.check(good, f"{name}:{number}", f"there is no {path}")

@@ -152,6 +152,11 @@ def claim():
     return reached([followed(names[word]) for word in words if word in names])
 
 
+def is_law_module(crate, module):
+    """Whether the functions of a module are laws: they do nothing, and their contracts are about definitions alone."""
+    return "laws" in module or module == "compaction" or (crate == "mail_laws" and module == "lib")
+
+
 class Contracts:
     """The definitions that a crate's contracts name: of public calls, of laws, and of private functions."""
 
@@ -160,38 +165,40 @@ class Contracts:
 
     def __init__(self, crate):
         self.part, self.law, self.inside = [], [], []
+        self.calls = OrderedDict()
         folder = os.path.join("crates", crate, "src")
         root = "\n".join(self.read(os.path.join(folder, name)) for name in ("lib.rt", "main.rt") if os.path.exists(os.path.join(folder, name)))
         self.exported = set()
         for names in re.findall(r"^pub use (?:\w+::)+(?:\{([^}]*)\}|(\w+))", root, re.MULTILINE):
             self.exported |= {name.strip() for name in (names[0] or names[1]).split(",")}
         modules = set(re.findall(r"^pub mod (\w+)", root, re.MULTILINE))
-        for name in glob.glob(os.path.join(folder, "*.rt")):
+        for name in sorted(glob.glob(os.path.join(folder, "*.rt"))):
             module = os.path.basename(name)[:-3]
             if module.endswith("tests"):
                 continue
-            self.read_file(self.read(name), module in ("lib", "main"), module in modules, "laws" in module or module == "compaction")
+            self.read_file(name, module in ("lib", "main"), module in modules, is_law_module(crate, module))
 
     @staticmethod
     def read(name):
         with open(name, encoding="utf-8") as handle:
             return handle.read()
 
-    def read_file(self, text, is_root, is_public, is_laws):
+    def read_file(self, path, is_root, is_public, is_laws):
+        text = self.read(path)
         names = imports_of(text)
         lines = text.split("\n")
-        owner = None
+        owner, in_trait = None, False
         number = 0
         while number < len(lines):
             line = lines[number]
             impl = self.IMPL.match(line)
             trait = re.match(r"^pub trait (\w+)", line)
             if impl:
-                owner = impl.group(2)
+                owner, in_trait = impl.group(2), False
             elif trait:
-                owner = trait.group(1)
+                owner, in_trait = trait.group(1), True
             elif line == "}":
-                owner = None
+                owner, in_trait = None, False
             found = self.FN.match(line)
             ghost = re.match(r"^    ghost (\w+) ?[=:]", line)
             if found:
@@ -204,6 +211,8 @@ class Contracts:
                 known = owner in self.exported or is_root or is_public if owner else (name in self.exported or is_root or is_public)
                 shown = (public == "pub " or (owner and not public and impl_is_trait(lines, number))) and known
                 self.note(names, clauses, ("law" if is_laws else "part") if shown else "inside")
+                if shown and (public == "pub " or in_trait):
+                    self.calls.setdefault((path, is_laws), OrderedDict()).setdefault(owner, []).append(name)
             elif ghost:
                 clauses = [line]
                 while not clauses[-1].rstrip().endswith(";") and number + 1 < len(lines):
@@ -231,12 +240,16 @@ def impl_is_trait(lines, number):
     return False
 
 
+def all_crates():
+    with open("crates.txt", encoding="utf-8") as handle:
+        rows = [row.split("#")[0].strip() for row in handle]
+    return [row.split(":")[0].split()[0] for row in rows if row]
+
+
 def kinds():
     """Each definition with its kind: claim, part, law, inside or uncited, the first that fits."""
     part, law, inside = [], [], []
-    for crate in sorted(os.listdir("crates")):
-        if not os.path.isdir(os.path.join("crates", crate, "src")):
-            continue
+    for crate in all_crates():
         contracts = Contracts(crate)
         part += contracts.part
         law += contracts.law
