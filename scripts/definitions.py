@@ -39,7 +39,9 @@ def imports_of(text):
             continue
         for listed in names.split(","):
             words = listed.strip().split(" as ")
-            if path.startswith("declared."):
+            if path.endswith(".TheConstants"):
+                found[words[-1]] = ("type", os.path.join("crates", crate, "src", *path.split(".")[1:-1]) + ".rt", words[0])
+            elif path.startswith("declared."):
                 found[words[-1]] = declared_type(crate, path)
             else:
                 spec = os.path.join("crates", crate, "specs", *path.split(".")) + ".antt"
