@@ -6,6 +6,7 @@
 - A fenced block that names a file after its language shows a part of that file, and a line `...` leaves lines out.
 - A link to a file of the repository, and to a heading, has to lead somewhere; so does a path in backquotes that begins with a
   folder of the repository.
+- A name in backquotes in a page about code, definitions or proofs has to stand in one of these, so none outlives what it names.
 - Each file in examples/ is named by some document.
 - What other scripts make is what they make now: the pictures, the index of contracts, and the marks of definitions.
 
@@ -28,6 +29,8 @@ FOLDERS = ("crates/", "docs/", "examples/", "scripts/", ".ci/")
 PATH = re.compile(r"`((?:crates|docs|examples|scripts|\.ci)/[^`\s*<>{}]*)`")
 LINK = re.compile(r"\]\(([^)\s]+)\)")
 MADE_BY_SCRIPTS = ("scripts/draw-pictures", "scripts/list-contracts", "scripts/mark-definitions")
+ABOUT_NAMES = ("docs/ARCHITECTURE.md", "docs/CLAIM.md", "docs/DEFINITIONS.md", "docs/PROOF.md")
+PARTS_OF_NAMES = ("Is", "Are")
 ANY_LINES = "..."
 
 
@@ -183,11 +186,34 @@ def check_links(name, lines, report):
             report.check(good, f"{name}:{number}", f"there is no {path}")
 
 
+def known_names():
+    """Every name in the code, the definitions and the proofs, with the names of their files and of the crates."""
+    names = set(os.listdir("crates"))
+    for pattern in ("crates/*/src/**/*.rt", "crates/*/specs/**/*.antt", "crates/*/proofs/**/*.antt"):
+        for path in glob.glob(pattern, recursive=True):
+            names.add(os.path.basename(path).rsplit(".", 1)[0])
+            with open(path, encoding="utf-8") as handle:
+                names.update(re.findall(r"[\w-]+", handle.read()))
+    return names
+
+
+def check_names(name, lines, names, report):
+    inside = False
+    for number, line in enumerate(lines, 1):
+        if line.startswith("```"):
+            inside = not inside
+        for code in [] if inside else re.findall(r"`([^`]+)`", line):
+            word = code.split()[0]
+            if re.fullmatch(r"[A-Za-z][\w-]*", word) and word not in PARTS_OF_NAMES:
+                report.check(word in names, f"{name}:{number}", f"nothing is named {word}")
+
+
 def main():
     os.chdir(os.path.join(os.path.dirname(os.path.abspath(sys.argv[0])), ".."))
     renew = "--renew" in sys.argv[1:]
     report = Report()
     all_text = ""
+    names = None
     for name in documents():
         lines = read_lines(name)
         all_text += "\n".join(lines)
@@ -201,6 +227,9 @@ def main():
             elif len(words) > 1:
                 check_quote(name, start, words[1], shown, report)
         check_links(name, lines, report)
+        if name in ABOUT_NAMES:
+            names = names or known_names()
+            check_names(name, lines, names, report)
         if renew:
             with open(name, "w", encoding="utf-8") as handle:
                 handle.write("\n".join(lines))
