@@ -1,59 +1,55 @@
 -- What one call of the program does: what it came to, and what it wrote.
-use Rattle.std.specs.Prelude.{ℕ, ◌≡◌, ◌<◌, ◌⊎◌, Bool, List, Option, Ok, Err, length, take, codes}
-use Rattle.std.specs.Io.KnownBytes.{Appends, IsAtEnd}
+use Rattle.std.specs.Prelude.{ℕ, ◌≡◌, ◌<◌, ◌⊎◌, List, Option, length, take, Bool}
 use Rattle.crgc_io.specs.Fault.{CountRose}
-use Rattle.crgc_io.specs.Taken.{Takes}
-use Rattle.history_model.specs.Story.{Story}
-use Rattle.cluster_course.specs.Collected.{IsRightlyCollected}
-use Rattle.journal_model.specs.Journals.{journal_of, limit}
-use Rattle.journal_model.specs.Lines.{line_of}
-use Rattle.journal_model.specs.Verdicts.{report_text}
-use Rattle.journal_player.specs.Faults.{fault_of}
+use Rattle.crgc_io.specs.Taken.{Puts}
+use Rattle.command_words.specs.Commands.{Spells}
+use Rattle.command_words.specs.declared.command.Command.{Command}
+use Rattle.command_words.specs.declared.command.Command.TheVariants.{Play, Run, Gen}
 use Rattle.cluster_top.specs.declared.status.Status.{Status}
 use Rattle.cluster_top.specs.declared.status.Status.TheVariants.{Done, Usage, ReadFault, WriteFault, Limit, Journal, NoMemory}
-use Rattle.cluster_top.specs.Refusals.{journal_line, limit_line}
-use Rattle.cluster_top.specs.Words.{IsCommand, play_words}
+use Rattle.cluster_top.specs.FaultLines.{usage_line}
+use Rattle.cluster_top.specs.GenOutcome.{GenCameTo}
+use Rattle.cluster_top.specs.PlayOutcome.{PlayCameTo}
 
--- what the source gave in the call
-abbrev pub HasTaken : {S : Type 0} → (left given : S → Option (List ℕ)) (old new : S) → (List ℕ → Type 0) → Type 0
-HasTaken left given old new P = (taken : List ℕ) × Takes left given old new taken × P taken
+-- the program carries the command out
+abbrev pub IsCarriedOut : Command → Type 0
+IsCarriedOut (Play brief) = Unit {0}
+IsCarriedOut (Run workers brief) = ⊥
+IsCarriedOut (Gen seed size) = Unit {0}
 
--- what the call came to before it wrote, with the text that it then had to write; no read failed, but at `ReadFault`
-abbrev pub CameTo : {S : Type 0} → (left given : S → Option (List ℕ)) (faults : S → ℕ) (words : List (List ℕ)) (old new : S) → Status → List ℕ → Type 0
-CameTo left given faults words old new Done text =
-    (brief : Bool) × (words ≡ play_words brief) × IsAtEnd (left new) × (faults new ≡ faults old)
-    × HasTaken left given old new (λ taken. (s : Story) × (journal_of taken ≡ Ok s) × IsRightlyCollected s.cluster s.past × (text ≡ report_text s.cluster s.past brief))
-CameTo left given faults words old new Usage text =
-    (¬ IsCommand words) × (new ≡ old) × (text ≡ line_of (codes "fault 2 usage"))
-CameTo left given faults words old new ReadFault text =
-    IsCommand words × CountRose (faults old) (faults new) × HasTaken left given old new (λ taken. length taken < 16777217)
-    × (text ≡ line_of (codes "fault 4 read"))
-CameTo left given faults words old new (WriteFault written) text = ⊥
-CameTo left given faults words old new (Limit which) text =
-    IsCommand words × (faults new ≡ faults old)
-    × HasTaken left given old new (λ taken. ((length taken ≡ 16777217) ⊎ IsAtEnd (left new)) × ((line : ℕ) × (journal_of taken ≡ Err (line, limit which))))
-    × (text ≡ limit_line which)
-CameTo left given faults words old new (Journal line cause) text =
-    IsCommand words × IsAtEnd (left new) × (faults new ≡ faults old)
-    × HasTaken left given old new (λ taken. journal_of taken ≡ Err (line, fault_of cause))
-    × (text ≡ journal_line line cause)
-CameTo left given faults words old new NoMemory text =
-    IsCommand words × (faults new ≡ faults old) × HasTaken left given old new (λ taken. length taken < 16777218)
-    × (text ≡ line_of (codes "fault 8 memory"))
+-- the words are a command that the program carries out
+abbrev pub IsTask : List (List ℕ) → Type 0
+IsTask words = (c : Command) × Spells words c × IsCarriedOut c
+
+-- what a command came to before anything was written, with the text that was then to be written
+abbrev pub CommandCameTo : {S : Type 0} → (left : S → Option (List ℕ)) (given : S → List ℕ) (ended : S → Bool)
+    (faults : S → ℕ) (old new : S) → Command → Status → List ℕ → Type 0
+CommandCameTo left given ended faults old new (Play brief) status text = PlayCameTo left given ended faults old new brief status text
+CommandCameTo left given ended faults old new (Run workers brief) status text = ⊥
+CommandCameTo left given ended faults old new (Gen seed size) status text = GenCameTo old new seed size status text
+
+-- what the call came to: what the words ask for, or `Usage` where they are no such command
+abbrev pub CameTo : {S : Type 0} → (left : S → Option (List ℕ)) (given : S → List ℕ) (ended : S → Bool)
+    (faults : S → ℕ) (words : List (List ℕ)) (old new : S) → Status → List ℕ → Type 0
+CameTo left given ended faults words old new status text =
+    ((c : Command) × Spells words c × IsCarriedOut c × CommandCameTo left given ended faults old new c status text)
+    ⊎ ((¬ IsTask words) × (new ≡ old) × (status ≡ Usage) × (text ≡ usage_line))
 
 -- all of the text was written, or a write failed after its first bytes
-abbrev pub IsWritten : {K : Type 0} → (held : K → Option (List ℕ)) (faults : K → ℕ) (old new : K) → (reason : Status) (text : List ℕ) (status : Status) → Type 0
-IsWritten held faults old new reason text status =
-    ((status ≡ reason) × Appends (held old) (held new) text × (faults new ≡ faults old))
+abbrev pub IsWritten : {K : Type 0} → (held : K → Option (List ℕ)) (taken : K → List ℕ)
+    (faults : K → ℕ) (old new : K) → (reason : Status) (text : List ℕ) (status : Status) → Type 0
+IsWritten held taken faults old new reason text status =
+    ((status ≡ reason) × Puts held taken old new text × (faults new ≡ faults old))
     ⊎ ((written : ℕ) × (status ≡ WriteFault written) × (written < length text)
-    × Appends (held old) (held new) (take written text) × CountRose (faults old) (faults new))
+    × Puts held taken old new (take written text) × CountRose (faults old) (faults new))
 
 -- the call came to something, and wrote it
-abbrev pub IsOutcome : {S K : Type 0} → (left given : S → Option (List ℕ)) (reads : S → ℕ) (held : K → Option (List ℕ)) (writes : K → ℕ)
+abbrev pub IsOutcome : {S K : Type 0} → (left : S → Option (List ℕ)) (given : S → List ℕ) (ended : S → Bool)
+    (reads : S → ℕ) (held : K → Option (List ℕ)) (taken : K → List ℕ) (writes : K → ℕ)
     (words : List (List ℕ)) (source source' : S) (sink sink' : K) → Status → Type 0
-IsOutcome left given reads held writes words source source' sink sink' status =
-    (reason : Status) × (text : List ℕ) × CameTo left given reads words source source' reason text
-    × IsWritten held writes sink sink' reason text status
+IsOutcome left given ended reads held taken writes words source source' sink sink' status =
+    (reason : Status) × (text : List ℕ) × CameTo left given ended reads words source source' reason text
+    × IsWritten held taken writes sink sink' reason text status
 
 -- the number with which the program ends
 abbrev pub exit_number_of : Status → ℕ

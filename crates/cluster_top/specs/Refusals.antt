@@ -1,25 +1,16 @@
--- What is written where there is no report.
-use Rattle.std.specs.Prelude.{ℕ, ◌≡◌, ◌⊎◌, List, ◌++◌, codes, decimal, Result, Err}
-use Rattle.crgc_ids.specs.declared.Which.{Which}
-use Rattle.journal_model.specs.Lines.{line_of}
+-- Why there is no report, as the code keeps it; only what is private cites it.
+use Rattle.std.specs.Prelude.{ℕ, ◌≡◌, ◌⊎◌, List, Option, Result, Err}
 use Rattle.journal_model.specs.Journals.{Fault, limit}
 use Rattle.journal_player.specs.Faults.{fault_of}
-use Rattle.journal_player.specs.declared.fault.Cause.{Cause}
 use Rattle.journal_player.specs.declared.fault.PlayFault.{PlayFault}
 use Rattle.journal_player.specs.declared.fault.PlayFault.TheVariants as faults
+use Rattle.crgc_ids.specs.declared.Which.TheVariants.{Input}
 use Rattle.cluster_top.specs.declared.status.Status.{Status}
 use Rattle.cluster_top.specs.declared.status.Status.TheVariants as ends
 use Rattle.cluster_top.specs.declared.refusal.Refusal.{Refusal}
 use Rattle.cluster_top.specs.declared.refusal.Refusal.TheVariants.{Usage, ReadFault, Limit, Journal, NoMemory}
-use Rattle.cluster_top.specs.Words.{cause_word, limit_word}
-
--- the line of a limit
-abbrev pub limit_line : Which → List ℕ
-limit_line which = line_of (codes "fault 6 limit " ++ limit_word which)
-
--- the line of a fault of the journal
-abbrev pub journal_line : ℕ → Cause → List ℕ
-journal_line line cause = line_of (codes "fault 7 line " ++ (decimal line ++ (codes " " ++ cause_word cause)))
+use Rattle.cluster_top.specs.FaultLines.{journal_line, limit_line, memory_line, read_line, usage_line}
+use Rattle.cluster_top.specs.Input.{Failed, GaveSome, GaveTooMuch}
 
 -- the status of a refusal
 abbrev pub status_of : Refusal → Status
@@ -31,11 +22,11 @@ status_of NoMemory = ends.NoMemory
 
 -- the line that is written for it
 abbrev pub line_for : Refusal → List ℕ
-line_for Usage = line_of (codes "fault 2 usage")
-line_for ReadFault = line_of (codes "fault 4 read")
+line_for Usage = usage_line
+line_for ReadFault = read_line
 line_for (Limit which) = limit_line which
 line_for (Journal line cause text) = text
-line_for NoMemory = line_of (codes "fault 8 memory")
+line_for NoMemory = memory_line
 
 -- the refusal of a journal that is not played to its end
 abbrev pub refusal_of : PlayFault → Refusal
@@ -46,6 +37,13 @@ refusal_of faults.NoMemory = NoMemory
 -- it is that, or there was no memory for its line
 abbrev pub IsRefusalOf : PlayFault → Refusal → Type 0
 IsRefusalOf fault refusal = (refusal ≡ refusal_of fault) ⊎ (refusal ≡ NoMemory)
+
+-- why the input of a call is not read to its end
+abbrev pub IsInputRefusal : {S : Type 0} → (left : S → Option (List ℕ)) (given : S → List ℕ) (faults : S → ℕ) (old new : S) → Refusal → Type 0
+IsInputRefusal left given faults old new ReadFault = Failed left given faults old new
+IsInputRefusal left given faults old new (Limit which) = (which ≡ Input) × ((bytes : List ℕ) × GaveTooMuch left given faults old new bytes)
+IsInputRefusal left given faults old new NoMemory = GaveSome left given faults old new
+IsInputRefusal left given faults old new _ = ⊥
 
 -- the refusal says what a journal tells: its first faulty line, or the limit that it passes; want of memory says nothing
 abbrev pub IsToldBy : {R : Type 0} → Refusal → Result R (ℕ × Fault) → Type 0

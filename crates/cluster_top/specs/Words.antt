@@ -1,20 +1,11 @@
--- The words of commands, and those by which a fault line names what is wrong.
-use Rattle.std.specs.Prelude.{ℕ, ◌≡◌, Bool, true, false, List, [], ◌∷◌, codes}
+-- The words by which a fault line names what is wrong.
+use Rattle.std.specs.Prelude.{ℕ, List, codes}
 use Rattle.crgc_ids.specs.declared.Which.{Which}
 use Rattle.crgc_ids.specs.declared.Which.TheVariants.{Input, Events, Actors, Delta}
 use Rattle.history_model.specs.declared.events.Rule.{Rule}
 use Rattle.history_model.specs.declared.events.Rule.TheVariants as rules
 use Rattle.journal_player.specs.declared.fault.Cause.{Cause}
 use Rattle.journal_player.specs.declared.fault.Cause.TheVariants as causes
-
--- the words that ask for the report of a journal, in full or in brief
-abbrev pub play_words : Bool → List (List ℕ)
-play_words false = codes "play" ∷ []
-play_words true = codes "play" ∷ codes "--brief" ∷ []
-
--- the words are a command
-abbrev pub IsCommand : List (List ℕ) → Type 0
-IsCommand words = (brief : Bool) × (words ≡ play_words brief)
 
 -- the word of a limit
 abbrev pub limit_word : Which → List ℕ

@@ -2,12 +2,14 @@
 #![tactic(auto)]
 
 mod causes;
+mod generating;
+mod input;
+mod playing;
 mod refusal;
 mod status;
 #[cfg(test)]
 mod tests;
 mod top;
-mod words;
 
 pub use crgc_ids::Which;
 pub use journal_player::Cause;

@@ -1,6 +1,7 @@
 //! Why the program writes a fault line in place of a report.
 ghost use Rattle.std.specs.Prelude.{◌≡◌, IfOk};
-ghost use Rattle.cluster_top.specs.Refusals.{IsRefusalOf, journal_line, limit_line, line_for, status_of};
+ghost use Rattle.cluster_top.specs.FaultLines.{journal_line, limit_line};
+ghost use Rattle.cluster_top.specs.Refusals.{IsRefusalOf, line_for, status_of};
 
 use crate::causes::cause_word;
 use crate::status::Status;

@@ -208,7 +208,8 @@ fn other_words_are_refused_and_the_source_is_not_read(rt: HostRuntime) -> Result
     let cases = [
         ["play", "--help"],
         ["--brief", "play"],
-        ["plays", "--brief"],
+        ["run", "--workers=0"],
+        ["gen", "--seed=7"],
     ];
     for [command, option] in cases {
         let fails_at_once = [0].to_vec(rt.alloc())?;
@@ -233,6 +234,31 @@ fn other_words_are_refused_and_the_source_is_not_read(rt: HostRuntime) -> Result
         assert_eq!(rt; status, Status::Usage);
         assert_eq!(rt; sink.bytes(), b"fault 2 usage\n".as_slice());
     }
+    Ok(())
+}
+
+#[test]
+fn a_script_is_made_and_the_source_is_not_read(rt: HostRuntime) -> Result<(), Fail> {
+    let fails_at_once = [0].to_vec(rt.alloc())?;
+    let mut source = MemorySource::new(Vec::new(rt.alloc()), 7, fails_at_once);
+    let mut sink = MemorySink::new(rt.alloc(), 4000, 512, Vec::new(rt.alloc()))
+        .ok()
+        .ok_or("memory")?;
+    let words = [
+        String::from_str(rt.alloc(), "gen")?,
+        String::from_str(rt.alloc(), "--size=1")?,
+        String::from_str(rt.alloc(), "--seed")?,
+        String::from_str(rt.alloc(), "7")?,
+    ];
+    let status = plain_top(rt.alloc(), &words, &mut source, &mut sink);
+    assert_eq!(rt; status, Status::Done);
+    assert_eq!(rt; sink.bytes().len(), 1551);
+    assert!(rt;
+        sink.bytes().starts_with(b"{\"behaviours\":[{\"message\":[[\"spawn\",\"y\",\"cell\"]")
+    );
+    assert!(rt;
+        sink.bytes().ends_with(b"{\"as\":\"b\",\"from\":19,\"to\":1}],\"turns\":1000000}\n")
+    );
     Ok(())
 }
 

@@ -1,25 +1,18 @@
 //! The top call: words, source and sink in, a status out.
-ghost use Rattle.std.specs.Prelude.{◌≡◌, ◌≤◌, false, Ok, IfOk, IfErr, map, string_bytes};
-ghost use Rattle.history_model.specs.Story.{Story};
-ghost use Rattle.cluster_course.specs.Collected.{IsRightlyCollected};
-ghost use Rattle.journal_model.specs.Journals.{journal_of};
-ghost use Rattle.journal_model.specs.Verdicts.{report_text};
+ghost use Rattle.std.specs.Prelude.{◌≡◌, ◌≤◌, false, IfOk, IfErr, map, string_bytes};
 ghost use Rattle.cluster_top.specs.Outcome.{CameTo, IsOutcome, IsWritten};
-ghost use Rattle.cluster_top.specs.Refusals.{IsToldBy, line_for, status_of};
+ghost use Rattle.cluster_top.specs.Refusals.{line_for, status_of};
 
+use crate::generating::generated;
+use crate::playing::played;
 use crate::refusal::Refusal;
 use crate::status::Status;
-use crate::words::asks_brief;
-use crgc_ids::Which;
-use crgc_io::{Gate, ReadAll, Sink, Source, WriteFault, read_all, write_all};
+use command_words::{Command, read_command};
+use crgc_io::{Gate, Sink, Source, WriteFault, write_all};
 use history_model::History;
-use journal_player::play;
 use std::alloc::Global;
 use std::sync::Wait;
 use std::thread::Threads;
-
-/// How many bytes of input are read at most.
-const INPUT_LIMIT: usize = 16_777_216;
 
 /// All that the program does: it reads the words and the source, does what they ask, and writes to the sink. Without
 /// worker threads, which come later, it does nothing but `plain_top`; the gate is not called, and `kept` stays as it is.
@@ -32,7 +25,7 @@ pub fn crgc_top<S: Source, K: Sink, G: Gate + Sync, R: Threads + Wait + Sync>(
     _gate: &G,
     kept: &mut Option<History>,
 ) -> Status
-    ensures outcome { IsOutcome S.left S.given S.faults K.held K.faults (map string_bytes words.now)
+    ensures outcome { IsOutcome S.left S.given S.ended S.faults K.held K.taken K.faults (map string_bytes words.now)
         source.old source.new sink.old sink.new result }
     ensures reads_never_fall { S.faults source.old ≤ S.faults source.new }
     ensures writes_never_fall { K.faults sink.old ≤ K.faults sink.new }
@@ -48,7 +41,7 @@ pub fn plain_top<S: Source, K: Sink>(
     source: &mut S,
     sink: &mut K,
 ) -> Status
-    ensures outcome { IsOutcome S.left S.given S.faults K.held K.faults (map string_bytes words.now)
+    ensures outcome { IsOutcome S.left S.given S.ended S.faults K.held K.taken K.faults (map string_bytes words.now)
         source.old source.new sink.old sink.new result }
     ensures reads_never_fall { S.faults source.old ≤ S.faults source.new }
     ensures writes_never_fall { K.faults sink.old ≤ K.faults sink.new }
@@ -66,40 +59,25 @@ pub fn wants_workers(_words: &[String]) -> bool
     false
 }
 
-// What the words ask for: the text of the report, or why there is none.
+// What the words ask for: the text that is to be written, or why there is none.
 fn answer<S: Source>(alloc: Global, words: &[String], source: &mut S) -> Result<Vec<u8>, Refusal>
-    ensures report { IfOk result (λ v. CameTo S.left S.given S.faults (map string_bytes words.now)
+    ensures text { IfOk result (λ v. CameTo S.left S.given S.ended S.faults (map string_bytes words.now)
         source.old source.new Status.Done v.items) }
-    ensures refusal { IfErr result (λ r. CameTo S.left S.given S.faults (map string_bytes words.now)
+    ensures refusal { IfErr result (λ r. CameTo S.left S.given S.ended S.faults (map string_bytes words.now)
         source.old source.new (status_of r) (line_for r)) }
     ensures never_falls { S.faults source.old ≤ S.faults source.new }
 {
-    let Some(brief) = asks_brief(words) else {
-        return Err(Refusal::Usage);
-    };
-    match read_all(alloc, source, INPUT_LIMIT) {
-        Ok(text) => played(alloc, text.as_slice(), brief),
-        Err(ReadAll::ReadFault) => Err(Refusal::ReadFault),
-        Err(ReadAll::TooLong) => Err(Refusal::Limit(Which::Input)),
-        Err(ReadAll::NoMemory) => Err(Refusal::NoMemory),
-    }
-}
-
-// The report of the journal, in brief or in full, or why there is none.
-fn played(alloc: Global, text: &[u8], brief: bool) -> Result<Vec<u8>, Refusal>
-    ensures report { IfOk result (λ v. (s : Story) × (journal_of text.now ≡ Ok s)
-        × IsRightlyCollected s.cluster s.past × (v.items ≡ report_text s.cluster s.past brief)) }
-    ensures refusal { IfErr result (λ r. IsToldBy r (journal_of text.now)) }
-{
-    match play(alloc, text, brief) {
-        Ok(report) => Ok(report),
-        Err(fault) => Err(Refusal::of(alloc, fault)),
+    match read_command(words) {
+        Some(Command::Play { brief }) => played(alloc, source, brief),
+        Some(Command::Gen { seed, size }) => generated(alloc, seed, size),
+        Some(Command::Run { .. }) => Err(Refusal::Usage),
+        None => Err(Refusal::Usage),
     }
 }
 
 // Writes the text, and answers the status, or that a write failed.
 fn write_out<K: Sink>(sink: &mut K, text: &[u8], status: Status) -> Status
-    ensures written { IsWritten K.held K.faults sink.old sink.new status text.now result }
+    ensures written { IsWritten K.held K.taken K.faults sink.old sink.new status text.now result }
     ensures never_falls { K.faults sink.old ≤ K.faults sink.new }
 {
     match write_all(sink, text) {

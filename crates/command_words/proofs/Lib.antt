@@ -1,0 +1,4 @@
+pub mod NumberLaws
+pub mod SettingLaws
+pub mod OrderLaws
+pub mod CommandLaws
