@@ -132,6 +132,7 @@ fn std_readers_and_writers_are_sources_and_sinks(rt: HostRuntime) -> Result<(), 
         write_all(&mut sink, b"four"),
         Err(WriteFault { written: 3 })
     );
+    drop(sink);
     assert_eq!(rt; room.as_slice(), b"fou".as_slice());
     Ok(())
 }
