@@ -15,6 +15,8 @@ use Rattle.history_model.specs.Uses.{IsUnused}
 -- quiet point of m and m sweeps, no quiescent actor of m is left unstopped
 pub record IsRightlyCollected (cl : Cluster) (h : List Event) : Type 0 where
   pub sweeps_are_right : (later p : List Event) (m : ℕ) → h ≡ later ++ Sweep m ∷ p → (a : Actor) → IsAmong a (stopped_by cl m p) → IsQuiescent cl p a
-  pub stops_are_right : (later p : List Event) → h ≡ later ++ p → (a : Actor) → IsTrue (is_stopped cl a p) → (q : List Event) → IsLegal cl (q ++ p) → IsQuiescent cl (q ++ p) a
+  pub stops_are_right : (later p : List Event) → h ≡ later ++ p → (a : Actor) → IsTrue (is_stopped cl a p)
+      → (q : List Event) → IsLegal cl (q ++ p) → IsQuiescent cl (q ++ p) a
   pub stopped_are_unused : (later p : List Event) → h ≡ later ++ p → (a : Actor) → IsTrue (is_stopped cl a p) → IsUnused cl p a
-  pub none_is_left : (later p : List Event) (m : ℕ) → h ≡ later ++ Sweep m ∷ p → IsQuietPoint cl m p → (a : Actor) → a.node ≡ m → IsQuiescent cl p a → IsTrue (is_stopped cl a (Sweep m ∷ p))
+  pub none_is_left : (later p : List Event) (m : ℕ) → h ≡ later ++ Sweep m ∷ p → IsQuietPoint cl m p
+      → (a : Actor) → a.node ≡ m → IsQuiescent cl p a → IsTrue (is_stopped cl a (Sweep m ∷ p))
