@@ -2,7 +2,12 @@
 
 /// Up to the seeds of the makers: the three behaviours, and a friend on each node.
 pub const HEAD: &str =
-    "{\"behaviours\":[{\"message\":[[\"spawn\",\"y\",\"cell\"],[\"send\",\"m0\",\"y\"],[\"send\",\"y\",\"m0\"],[\"drop\",\"y\"]],\"name\":\"friend\"},{\"name\":\"maker\",\"wake\":[[\"spawn\",\"x\",\"cell\"],[\"send\",\"b\",\"x\"],[\"drop\",\"x\"]]},{\"message\":[[\"keep\",\"k\",\"m0\"]],\"name\":\"cell\"}],\"nodes\":4,\"seeds\":[{\"behaviour\":\"friend\",\"node\":0,\"wakes\":0},{\"behaviour\":\"friend\",\"node\":1,\"wakes\":0},{\"behaviour\":\"friend\",\"node\":2,\"wakes\":0},{\"behaviour\":\"friend\",\"node\":3,\"wakes\":0}";
+    "{\"behaviours\":[{\"message\":[[\"spawn\",\"y\",\"cell\"],[\"send\",\"m0\",\"y\"],[\"send\",\"y\",\
+     \"m0\"],[\"drop\",\"y\"]],\"name\":\"friend\"},{\"name\":\"maker\",\"wake\":[[\"spawn\",\"x\",\"cell\"],\
+     [\"send\",\"b\",\"x\"],[\"drop\",\"x\"]]},{\"message\":[[\"keep\",\"k\",\"m0\"]],\"name\":\"cell\"}],\
+     \"nodes\":4,\"seeds\":[{\"behaviour\":\"friend\",\"node\":0,\"wakes\":0},{\"behaviour\":\"friend\",\
+     \"node\":1,\"wakes\":0},{\"behaviour\":\"friend\",\"node\":2,\"wakes\":0},{\"behaviour\":\"friend\",\
+     \"node\":3,\"wakes\":0}";
 
 /// Between the seeds and the ties.
 pub const MIDDLE: &str = "],\"ties\":[";
