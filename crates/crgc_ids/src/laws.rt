@@ -38,7 +38,9 @@ pub fn fit_parts_are_closed_under_union<T>()
 
 /// Of a greater list, by a test that lets more members be fit, the greatest part is greater.
 pub fn greatest_part_grows<T>()
-    ensures { (fit more : List T → T → Bool) (xs ys : List T) → IsMonotone more → ((zs : List T) (x : T) → fit zs x ≡ true → more zs x ≡ true) → IsPart xs ys → IsPart (greatest fit xs) (greatest more ys) }
+    ensures { (fit more : List T → T → Bool) (xs ys : List T) → IsMonotone more
+        → ((zs : List T) (x : T) → fit zs x ≡ true → more zs x ≡ true)
+        → IsPart xs ys → IsPart (greatest fit xs) (greatest more ys) }
 {}
 
 /// A node is removed exactly where some link leads from it, and the removed nodes rise.

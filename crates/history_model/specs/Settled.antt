@@ -23,4 +23,5 @@ admitted_on s d (_ ∷ p) = admitted_on s d p
 pub record AreSettled (cl : Cluster) (c : ℕ → ℕ) (lost : ℕ → Bool) (h : List Event) : Type 0 where
   pub crashed : (n : ℕ) → IsTrue (lost n) → IsFalse (is_up n h)
   pub closed : (m : Message) → IsTrue (is_up m.to.node h) → IsOnLink h m → IsTrue (lost m.from.node) → IsTrue (lost m.to.node)
-  pub told : (s d : ℕ) → d < cl.nodes → IsTrue (lost s) → IsFalse (lost d) → link_facts (λ x. x == s) (take (c d) (stream cl d h)) ≡ flat_map message_facts (admitted_on s d h)
+  pub told : (s d : ℕ) → d < cl.nodes → IsTrue (lost s) → IsFalse (lost d)
+      → link_facts (λ x. x == s) (take (c d) (stream cl d h)) ≡ flat_map message_facts (admitted_on s d h)

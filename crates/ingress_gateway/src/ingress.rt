@@ -38,7 +38,14 @@ impl Model for Ingress {
 
     ghost Value = { Gate };
 
-    ghost view = { λ i. record { at = i.at; from = i.from; is_closed = i.is_closed; numbers = i.numbers; messages = i.backlog.messages; carried = i.backlog.carried } };
+    ghost view = { λ i. record {
+      at = i.at;
+      from = i.from;
+      is_closed = i.is_closed;
+      numbers = i.numbers;
+      messages = i.backlog.messages;
+      carried = i.backlog.carried;
+    } };
 }
 
 impl Ingress {

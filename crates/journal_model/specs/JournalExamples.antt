@@ -242,5 +242,6 @@ too_long text e = ap (λ n. if nat_lt 16777216 n then Err (0, limit Input) else 
 rule_first : (cl : Cluster) (r : Replay) (e : Event) (broken : Rule) → refusal cl e r.past ≡ Some broken → after_event cl r e ≡ Err (rule broken)
 rule_first cl r e broken refused = rw refused refl
 
-limit_next : (cl : Cluster) (r : Replay) (e : Event) (which : Which) → refusal cl e r.past ≡ None → limit_passed cl e r.past ≡ Some which → after_event cl r e ≡ Err (limit which)
+limit_next : (cl : Cluster) (r : Replay) (e : Event) (which : Which)
+    → refusal cl e r.past ≡ None → limit_passed cl e r.past ≡ Some which → after_event cl r e ≡ Err (limit which)
 limit_next cl r e which legal passed = rw (legal, passed) refl

@@ -215,7 +215,8 @@ fn is_touching(message: &Carrying, actor: ActorId) -> bool
 
 /// Whether the event admits a message that waits, and that goes to the actor or carries it.
 fn is_waiting_for(events: &[Event], event: &Event, earlier: &[Event], actor: ActorId) -> bool
-    ensures { result ≡ list_any (uses_waiting (reverse events.now) actor (reverse earlier.now)) (map (carrying actor) (admitted_by event.now (reverse earlier.now))) }
+    ensures { result ≡ list_any (uses_waiting (reverse events.now) actor (reverse earlier.now))
+        (map (carrying actor) (admitted_by event.now (reverse earlier.now))) }
 {
     match admitted_message(event, earlier, actor) {
         Some(message) => is_touching(&message, actor) && is_waiting(events, earlier, message.to),

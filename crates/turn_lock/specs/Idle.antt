@@ -8,7 +8,15 @@ use Rattle.turn_lock.specs.Known.{Known}
 
 module _ {S P R : Type 0} where
   abbrev pub known : TableId → View S P R → Known S P R
-  known table v = record { origin = record { table = table; start = v.start }; number = v.number; split = v.given; joined = v.joined; seen = v.seen; own = v.own; gathered = v.gathered }
+  known table v = record {
+    origin = record { table = table; start = v.start };
+    number = v.number;
+    split = v.given;
+    joined = v.joined;
+    seen = v.seen;
+    own = v.own;
+    gathered = v.gathered;
+  }
 
   -- a pass of this number, which holds no slot and has no ticket
   pub record IsIdle (number : ℕ) (me : Me (Room S P R) (View S P R)) : Type 0 where

@@ -10,4 +10,5 @@ module _ {S P R : Type 0} (fits : S → List (Entry P R) → P → ℕ → Type 
 
   -- after the answer the state stands for the history with the new entry
   abbrev pub Answers : ℕ → P → R → S → S → Type 0
-  Answers pass op reply before after = (start : S) (history : List (Entry P R)) → stands start history before → fits start history op pass → stands start (entry pass op reply ∷ history) after
+  Answers pass op reply before after = (start : S) (history : List (Entry P R))
+      → stands start history before → fits start history op pass → stands start (entry pass op reply ∷ history) after

@@ -25,7 +25,9 @@ module _ {S P R : Type 0} where
 module _ {S P R : Type 0} (fits : S → List (Entry P R) → P → ℕ → Type 0) (stands : S → List (Entry P R) → S → Type 0) where
   -- the room keeps the call that was made last
   abbrev pub Answered : ℕ → P → R → Room S P R → Room S P R → Type 0
-  Answered pass op reply before after = ((last : Last P R) × (after.last ≡ Some last) × (last.op.value ≡ op) × (last.reply.value ≡ reply)) × Answers fits stands pass op reply before.state after.state
+  Answered pass op reply before after =
+      ((last : Last P R) × (after.last ≡ Some last) × (last.op.value ≡ op) × (last.reply.value ≡ reply))
+      × Answers fits stands pass op reply before.state after.state
 
   -- the seat has made this call, after calls of others, and has given the slot back
   pub record Served (start : S) (pass : ℕ) (op : P) (reply : R) (v : View S P R) (n : Sat S P R) : Type 0 where

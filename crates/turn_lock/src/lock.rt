@@ -63,7 +63,8 @@ impl<O: Object> TurnLock<O> {
         alloc: Global,
         state: O::State,
     ) -> Result<(TurnLock<O>, Pass<O>), (O::State, NoMemory)>
-        ensures ok { IfOk result (λ r. (r.0.start ≡ state) × (r.1 ≡ record { origin = r.0.origin; number = 0; split = 0; joined = []; seen = []; own = []; gathered = [] })) }
+        ensures ok { IfOk result (λ r. (r.0.start ≡ state)
+            × (r.1 ≡ record { origin = r.0.origin; number = 0; split = 0; joined = []; seen = []; own = []; gathered = [] })) }
         ensures err { IfErr result (λ r. r.0 ≡ state) }
     {
         let start = Snapshot::of(&state);
@@ -109,7 +110,8 @@ impl<O: Object> TurnLock<O> {
         requires lock { pass.old.origin ≡ self.now.origin }
         requires fits { O.fits self.now.start pass.old.seen op pass.old.number }
         ensures pass { pass.new ≡ record pass.old { seen = pass.new.seen; own = pass.new.own } }
-        ensures seen { (between : List (Entry O.Op O.Reply)) × (pass.new.seen ≡ entry pass.old.number op result ∷ (between ++ pass.old.seen)) × (calls_of pass.old.number between ≡ []) }
+        ensures seen { (between : List (Entry O.Op O.Reply))
+            × (pass.new.seen ≡ entry pass.old.number op result ∷ (between ++ pass.old.seen)) × (calls_of pass.old.number between ≡ []) }
         ensures own { (pass.new.own ≡ entry pass.old.number op result ∷ pass.old.own) × (calls_of pass.old.number pass.new.seen ≡ pass.new.own) }
         ensures proper { IsProper O.fits O.stands self.now.start pass.new.seen }
     {
@@ -121,7 +123,11 @@ impl<O: Object> TurnLock<O> {
     pub fn join(&self, pass: &mut Pass<O>, other: Pass<O>)
         requires lock { (pass.old.origin ≡ self.now.origin) × (other.origin ≡ self.now.origin) }
         requires first { pass.old.number ≡ 0 }
-        ensures pass { pass.new ≡ record pass.old { joined = other.number ∷ pass.old.joined; seen = longer pass.old.seen other.seen; gathered = other.own ++ pass.old.gathered } }
+        ensures pass { pass.new ≡ record pass.old {
+          joined = other.number ∷ pass.old.joined;
+          seen = longer pass.old.seen other.seen;
+          gathered = other.own ++ pass.old.gathered;
+        } }
         ensures begins { Begins pass.old.seen pass.new.seen × Begins other.seen pass.new.seen }
     {
         let shared = &self.table.shared;

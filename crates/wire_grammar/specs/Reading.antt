@@ -113,7 +113,8 @@ delta_at wide p = do
   sent ← counts_at wide t.0 states.1
   created ← pairs_at wide t.0 sent.1
   released ← pairs_at wide t.0 created.1
-  let d : Delta = record { node = n.0; states = states.0; sent = sent.0; created = created.0; released = released.0 } in all_named (unnamed (delta_names d) (n.1.offset + index_len wide) t.0) (d, released.1)
+  let d : Delta = record { node = n.0; states = states.0; sent = sent.0; created = created.0; released = released.0 } in
+      all_named (unnamed (delta_names d) (n.1.offset + index_len wide) t.0) (d, released.1)
 
 -- the two nodes of a link: the one at which messages were admitted, and another, from which they came
 abbrev pub link_at : Reader (ℕ × ℕ)
@@ -125,7 +126,8 @@ window_at wide p = do
   t ← table_at wide n.1
   messages ← counts_at wide t.0 t.1
   carried ← pairs_at wide t.0 messages.1
-  let w : Window = record { at = n.0.0; from = n.0.1; messages = messages.0; carried = carried.0 } in all_named (unnamed (window_names w) (n.1.offset + index_len wide) t.0) (w, carried.1)
+  let w : Window = record { at = n.0.0; from = n.0.1; messages = messages.0; carried = carried.0 } in
+      all_named (unnamed (window_names w) (n.1.offset + index_len wide) t.0) (w, carried.1)
 
 abbrev pub magic_at : Reader ℕ
 magic_at p = checked Magic (λ n. (n == magic false) || (n == magic true)) (number_at 4) p
