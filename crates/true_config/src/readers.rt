@@ -21,10 +21,10 @@ impl World {
     }
 
     /// How many actors are busy on nodes that are up. Constant time: the nodes are 16 at most.
-    pub fn busy_count(&self) -> u32
+    pub fn busy_count(&self) -> u64
         ensures { result ≡ busy_count self.now.cluster self.now.past }
     {
-        self.roster.busy_count()
+        u64::from(self.roster.busy_count())
     }
 
     /// How many entries wait for the next publish of the node. Constant time.

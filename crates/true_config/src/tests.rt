@@ -33,7 +33,7 @@ fn follow(world: &mut World, event: &Event) -> Result<(), Fail> {
 
 /// How many actors were born on the node, how many are busy in the cluster, the lengths of the node's queue and stream, and the
 /// serial of the first actor of the node that may be flushed.
-fn glance(world: &World, node: NodeId) -> (u32, u32, usize, u32, Option<u32>) {
+fn glance(world: &World, node: NodeId) -> (u32, u64, usize, u32, Option<u32>) {
     (
         world.born(node),
         world.busy_count(),

@@ -7,4 +7,4 @@ use Rattle.true_config.proofs.world.World.busy_count.Goals as goal
 pub returns : goal.returns
 returns c =
     let h = c.self.inside.history in
-    c.busy_count.ensures ∙ busy-total h.cluster h.past c.self.inside.roster c.self.invariant.roster ∙ ap (λ (x : Story). busy_count x.cluster x.past) c.self.view_is
+    c.from.ensures ∙ c.busy_count.ensures ∙ busy-total h.cluster h.past c.self.inside.roster c.self.invariant.roster ∙ ap (λ (x : Story). busy_count x.cluster x.past) c.self.view_is
