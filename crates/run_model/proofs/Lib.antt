@@ -17,5 +17,6 @@ pub mod SeedsLegal
 pub mod ReadScripts
 pub mod FirstLimits
 pub mod TurnsDue
+pub mod PartTurns
 pub mod SeedRows
 pub mod LowestActors

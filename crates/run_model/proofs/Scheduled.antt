@@ -119,16 +119,16 @@ module _ (s : Scripted) where
   round-sound = round-keeps (IsSound s) (cluster_of s) sound-kept (λ m h none sound. sound-next s (Sweep m) h sound none tt)
 
   -- a turn begins
-  take-busy : (a : Actor) (h : List Event) → IsSound s h → refusal (cluster_of s) (Take a) h ≡ None → IsBusyIn s a (Take a ∷ h)
+  pub take-busy : (a : Actor) (h : List Event) → IsSound s h → refusal (cluster_of s) (Take a) h ≡ None → IsBusyIn s a (Take a ∷ h)
   take-busy a h sound none =
       (sound-next s (Take a) h sound none tt, ap (λ v. if v then true else is_busy a h) (same_actor-refl a), (legal-kept (cluster_of s) (Take a) h (none, sound.0)).1.0)
 
-  wake-busy : (a : Actor) (h : List Event) → IsSound s h → refusal (cluster_of s) (Wake a) h ≡ None → IsBusyIn s a (Wake a ∷ h)
+  pub wake-busy : (a : Actor) (h : List Event) → IsSound s h → refusal (cluster_of s) (Wake a) h ≡ None → IsBusyIn s a (Wake a ∷ h)
   wake-busy a h sound none =
       (sound-next s (Wake a) h sound none tt, ap (λ v. if v then true else is_busy a h) (same_actor-refl a), (legal-kept (cluster_of s) (Wake a) h (none, sound.0)).1.0)
 
   -- and is done whole
-  crash-sound : (a : Actor) (planned : Option ℕ) (turns : ℕ) (h : List Event) → IsSound s h → a.node < s.nodes → is_up a.node h ≡ true → IsSound s (crashed (node_if planned a.node turns) h)
+  pub crash-sound : (a : Actor) (planned : Option ℕ) (turns : ℕ) (h : List Event) → IsSound s h → a.node < s.nodes → is_up a.node h ≡ true → IsSound s (crashed (node_if planned a.node turns) h)
   crash-sound a None turns h sound node up = sound
   crash-sound a (Some after) turns h sound node up =
       elim (after == turns) as (λ v. IsSound s (crashed (if v then Some a.node else None) h)) [

@@ -23,14 +23,14 @@ use Rattle.run_model.proofs.TurnsDone.{act_events, acts_with, picked}
 
 module _ (s : Scripted) (a : Actor) where
   -- what is left of a's turn, and how many instructions
-  abbrev LeftAt : List Event → Left
+  abbrev pub LeftAt : List Event → Left
   LeftAt h = (let d = doing s a h in d.turn)
 
-  abbrev SizeAt : List Event → ℕ
+  abbrev pub SizeAt : List Event → ℕ
   SizeAt h = (let l = LeftAt h in length l.instrs)
 
   -- the acts that are left at h, with k children at hand
-  abbrev ActsAt : ℕ → List Event → List Act
+  abbrev pub ActsAt : ℕ → List Event → List Act
   ActsAt k h = acts_with (LeftAt h) (children a k h)
 
   -- the first of them is the one that is due, and the others are left after it
@@ -78,10 +78,10 @@ module _ (s : Scripted) (a : Actor) where
   law k h = ap (λ (o : List Act × Names). o.0) (turn_is_its_due_act (LeftAt h) (children a k h))
 
   -- all that is left, done at once
-  abbrev Finished : ℕ → List Event → List Event
+  abbrev pub Finished : ℕ → List Event → List Event
   Finished k h = onto h (act_events a (ActsAt k h))
 
-  step-same : (e : Event) (k : ℕ) (h : List Event) → e ≡ due s a h → is_rest e ≡ false → SizeAt h ≤ k → (j : ℕ) × (SizeAt (e ∷ h) ≤ j) × (Finished k h ≡ Finished j (e ∷ h))
+  pub step-same : (e : Event) (k : ℕ) (h : List Event) → e ≡ due s a h → is_rest e ≡ false → SizeAt h ≤ k → (j : ℕ) × (SizeAt (e ∷ h) ≤ j) × (Finished k h ≡ Finished j (e ∷ h))
   unfolding IsFirst
   step-same e k h is no_rest enough =
       elim (due_act (LeftAt h)) as (λ v. due_act (LeftAt h) ≡ v → e ≡ event_of a v → (j : ℕ) × (SizeAt (e ∷ h) ≤ j) × (Finished k h ≡ Finished j (e ∷ h))) [
@@ -92,7 +92,7 @@ module _ (s : Scripted) (a : Actor) where
       made : (act : Act) → due_act (LeftAt h) ≡ Some act → (j : ℕ) × (SizeAt (event_of a (Some act) ∷ h) ≤ j) × (Finished k h ≡ Finished j (event_of a (Some act) ∷ h))
       made act next = (let first = first-act (due_act (LeftAt h)) act k h refl next enough (law k h) in (first.0, first.1, ap (λ done. onto h (act_events a done)) first.2))
 
-  steps-same : (q h : List Event) → AreDue s a q h → (k : ℕ) × (SizeAt (q ++ h) ≤ k) × (Finished (SizeAt h) h ≡ Finished k (q ++ h))
+  pub steps-same : (q h : List Event) → AreDue s a q h → (k : ℕ) × (SizeAt (q ++ h) ≤ k) × (Finished (SizeAt h) h ≡ Finished k (q ++ h))
   steps-same [] h all = (SizeAt h, omega arith, refl)
   steps-same (e ∷ q) h all =
       let before = steps-same q h all.2 in
@@ -100,7 +100,7 @@ module _ (s : Scripted) (a : Actor) where
       (step.0, step.1, before.2 ∙ step.2)
 
   -- where only the rest is due, nothing is left
-  rest-none : (h : List Event) → due s a h ≡ Rest a → due_act (LeftAt h) ≡ None
+  pub rest-none : (h : List Event) → due s a h ≡ Rest a → due_act (LeftAt h) ≡ None
   rest-none h is = none (due_act (LeftAt h)) (ap is_rest is)
     where
       none : (v : Option Act) → is_rest (event_of a v) ≡ true → v ≡ None

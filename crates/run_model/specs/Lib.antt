@@ -4,3 +4,4 @@ pub mod Sound
 pub mod Planned
 pub mod Follows
 pub mod Schedule
+pub mod Turns

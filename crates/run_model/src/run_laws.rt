@@ -1,5 +1,5 @@
 //! The laws of runs and of the fixed schedule, in all scripts. Each function does nothing, and its contract is the law.
-ghost use Rattle.std.specs.Prelude.{◌≡◌, ◌++◌, ◌∷◌, ℕ, true, List, None};
+ghost use Rattle.std.specs.Prelude.{◌≡◌, ◌∷◌, ◌++◌, ℕ, true, List, None};
 ghost use Rattle.crgc_ids.specs.Actor.{Actor};
 ghost use Rattle.crgc_ids.specs.declared.Which.{Which};
 ghost use Rattle.history_model.specs.declared.events.Event.{Event};
@@ -12,6 +12,7 @@ ghost use Rattle.run_model.specs.Doing.{beginning, cluster_of, due, is_in_ranges
 ghost use Rattle.run_model.specs.Follows.{Follows, IsRun, IsUnfinished, is_allowed};
 ghost use Rattle.run_model.specs.Planned.{crash_due};
 ghost use Rattle.run_model.specs.Schedule.{AreDue, IsFirstLimit, IsFixed, IsWithinLimits, schedule, turn_done};
+ghost use Rattle.run_model.specs.Turns.{BeginsTurn, ComesNext, IsUnderWay};
 
 /// After so many ended turns the fixed schedule makes a round.
 pub const TURNS_PER_ROUND: usize = 64;
@@ -41,6 +42,18 @@ pub fn acts_of_turns_are_legal()
 pub fn what_is_due_is_the_whole_turn()
     ensures { (s : Scripted) (a : Actor) (q h : List Event) → AreDue s a q h → due s a (q ++ h) ≡ Rest a
         → turn_done s a h ≡ Rest a ∷ (q ++ h) }
+{}
+
+/// Whatever acts of an actor's turn were due and made so far, what is due next comes next in the whole turn.
+pub fn what_is_due_comes_next()
+    ensures { (s : Scripted) (a : Actor) (q h : List Event) → AreDue s a q h → ComesNext s a q h }
+{}
+
+/// While a turn of the fixed schedule is under way its actor is busy on a node that is up, and no rule refuses what is due next:
+/// the act, the rest, or the crash that comes with the rest.
+pub fn turns_of_the_fixed_schedule_are_legal()
+    ensures { (s : Scripted) (a : Actor) (k : ℕ) (e : Event) (q : List Event) → is_in_ranges s ≡ true → BeginsTurn a e
+        → refusal (cluster_of s) e (schedule s k) ≡ None → AreDue s a q (e ∷ schedule s k) → IsUnderWay s a (q ++ e ∷ schedule s k) }
 {}
 
 /// The history of each run is legal, also while its closing round is made and where that has closed it.
