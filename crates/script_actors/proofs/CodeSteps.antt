@@ -56,7 +56,7 @@ sending n None xs names (Some refs) l m e few fits = fits
 sending n (Some to) xs names None l m e few fits = fits
 sending n (Some to) xs names (Some refs) l m e few fits = (let long = bound-length xs names refs e in omega (arith, long, few))
 
-next-fits : (n : ℕ) (instrs : List Instr) → list_all (is_instr n) instrs ≡ true → (names : Names) (root : Bool) → FitsNext n (next instrs names root)
+pub next-fits : (n : ℕ) (instrs : List Instr) → list_all (is_instr n) instrs ≡ true → (names : Names) (root : Bool) → FitsNext n (next instrs names root)
 next-fits n [] all names root = dropping n (first_message names) _ _ tt
 next-fits n (Spawn x b ∷ instrs) all names root =
     let first = (and_parts (is_instr n (Spawn x b)) (list_all (is_instr n) instrs) all).0 in
@@ -94,7 +94,7 @@ list-fits n b list fits =
       | lists.Message ↦ (and_parts (nat_le (length b.message) 64) (list_all (is_instr n) b.message) both.1).1
     ]
 
-instrs-fit : (code : List Behaviour) (b : ℕ) (list : Which) → IsCode code → list_all (is_instr (length code)) (instrs_of code b list) ≡ true
+pub instrs-fit : (code : List Behaviour) (b : ℕ) (list : Which) → IsCode code → list_all (is_instr (length code)) (instrs_of code b list) ≡ true
 instrs-fit code b list good = found (slice_get code b) (λ x e. all-get (is_behaviour (length code)) code b x good.1 e)
   where
     found : (v : Option Behaviour) → ((x : Behaviour) → v ≡ Some x → is_behaviour (length code) x ≡ true) → list_all (is_instr (length code)) (list_of v list) ≡ true

@@ -1,7 +1,8 @@
 -- What a change of one node's rows is in the table.
-use Rattle.std.proofs.Common.{◌≡◌, ◌≢◌, ◌+◌, ◌<◌, ◌==◌, ℕ, zero, suc, Bool, true, false, if◌then◌else◌, List, [], ◌∷◌, ◌++◌, get_or, length, length-set, set, slice_get, Option, Some, None, refl, sym, ◌∙◌, ap, subst, inl, inr, arith}
+use Rattle.std.proofs.Common.{◌≡◌, ◌≢◌, ◌+◌, ◌-◌, ◌≤◌, ◌<◌, ◌==◌, ℕ, zero, suc, Bool, true, false, if◌then◌else◌, List, [], ◌∷◌, ◌++◌, get_or, length, length-set, set, slice_get, take, Option, Some, None, refl, sym, ◌∙◌, ap, subst, inl, inr, arith}
 use Rattle.std.proofs.lemmas.Bool.{cases_eq, cases_lt, eq-eqb, ne_eqb}
-use Rattle.std.proofs.lemmas.List.{get_or_default, get_or_past, get_or-set_other, get_or-set_same, length-append}
+use Rattle.std.proofs.lemmas.List.{ext_get_or, get_or_default, get_or_past, get_or-set_other, get_or-set_same, length-append}
+use Rattle.std.proofs.lemmas.Option.{none-some, same_Some, slice_get_past}
 use Rattle.crgc_ids.specs.Actor.{Actor}
 use Rattle.crgc_ids.proofs.ActorLaws.{same_parts}
 use Rattle.script_actors.specs.declared.rows.Row.{Row}
@@ -106,3 +107,63 @@ module _ (t : Table) (a : Actor) (k : ℕ) (old new : List Row) (at : k ≡ a.no
         is_row = ap (λ rows. slice_get rows a.serial) (put ∙ e) ∙ get-last old a.serial row last;
         others = others-kept (λ j apart. ap (λ rows. slice_get rows j) e ∙ get-not_last old j row (λ same. apart (same ∙ sym last)));
       }
+
+-- ---- a birth taken back
+
+-- lists with the same members at each place
+same-rows : {A : Type 0} (xs ys : List A) → ((i : ℕ) → slice_get xs i ≡ slice_get ys i) → xs ≡ ys
+same-rows [] [] same = refl
+same-rows [] (y ∷ ys) same = absurd (none-some y (same 0))
+same-rows (x ∷ xs) [] same = absurd (none-some x (sym (same 0)))
+same-rows (x ∷ xs) (y ∷ ys) same = λ i. same_Some x y (same 0) i ∷ same-rows xs ys (λ k. same (suc k)) i
+
+module _ {A : Type 0} where
+  get-take : (xs : List A) (n i : ℕ) → i < n → slice_get (take n xs) i ≡ slice_get xs i
+  get-take xs zero i below = absurd (omega (arith, below))
+  get-take [] (suc n) i below = refl
+  get-take (x ∷ xs) (suc n) zero below = refl
+  get-take (x ∷ xs) (suc n) (suc i) below = get-take xs n i (omega (arith, below))
+
+  get-past : (xs : List A) (n i : ℕ) → n ≤ i → slice_get (take n xs) i ≡ None
+  get-past xs zero i past = refl
+  get-past [] (suc n) i past = refl
+  get-past (x ∷ xs) (suc n) zero past = absurd (omega (arith, past))
+  get-past (x ∷ xs) (suc n) (suc i) past = get-past xs n i (omega (arith, past))
+
+-- the table without the last row of the node, to which that row was added
+pub takes-back : (before t : Table) (a : Actor) (row : Row) (k : ℕ) (old new : List Row) → k ≡ a.node → a.node < length t → old ≡ get_or t k old
+    → new ≡ take (length old - 1) old → a ≡ next_on before a.node → AddsRow before t a row → set t k new ≡ before
+takes-back before t a row k old new at below here taken next adds =
+    ext_get_or [] (set t k new) before (length-set t k new ∙ adds.nodes) (λ n _. same-rows (rows_on (set t k new) n) (rows_on before n) (each n))
+  where
+    found' : old ≡ rows_on t a.node
+    found' = found t a k old new at below here
+
+    last : a.serial ≡ length (rows_on before a.node)
+    last = ap (λ (b : Actor). b.serial) next
+
+    long : length old ≡ length (rows_on before a.node) + 1
+    long =
+        ap (λ (rows : List Row). length rows) found' ∙ adds.counts a.node
+        ∙ ap (λ v. if v then length (rows_on before a.node) + 1 else length (rows_on before a.node)) (eq-eqb a.node a.node refl)
+
+    own : (j : ℕ) → slice_get new j ≡ slice_get (rows_on before a.node) j
+    own j = elim (cases_lt j a.serial) [
+      | inl low ↦
+          ap (λ rows. slice_get rows j) taken ∙ get-take old (length old - 1) j (let count = long in let is = last in omega (arith, count, is, low))
+          ∙ ap (λ rows. slice_get rows j) found'
+          ∙ adds.others (record { node = a.node; serial = j }) (λ same. (let e : j ≡ a.serial = ap (λ (b : Actor). b.serial) same in omega (arith, e, low)))
+      | inr high ↦
+          ap (λ rows. slice_get rows j) taken ∙ get-past old (length old - 1) j (let count = long in let is = last in omega (arith, count, is, high))
+          ∙ sym (slice_get_past (rows_on before a.node) j (let is = last in omega (arith, is, high)))
+    ]
+
+    each : (n j : ℕ) → slice_get (rows_on (set t k new) n) j ≡ slice_get (rows_on before n) j
+    each n j = elim (cases_eq n a.node) [
+      | inl on ↦
+          subst (λ m. slice_get (rows_on (set t k new) m) j ≡ slice_get (rows_on before m) j) (sym on)
+          (ap (λ rows. slice_get rows j) (put t a k old new at below here) ∙ own j)
+      | inr other ↦
+          ap (λ rows. slice_get rows j) (elsewhere t a k old new at below here n other)
+          ∙ adds.others (record { node = n; serial = j }) (λ same. other (ap (λ (b : Actor). b.node) same))
+    ]

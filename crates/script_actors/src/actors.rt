@@ -13,7 +13,8 @@ ghost use Rattle.behaviour_lang.specs.declared.act.List.TheVariants as lists;
 ghost use Rattle.script_reader.specs.Valid.{Scripted};
 ghost use Rattle.run_model.specs.Doing.{first_refs, own_name};
 ghost use Rattle.crgc_ids.specs.Actor.{Actor};
-ghost use Rattle.script_actors.specs.Table.{AddsRow, IsHere, SetsRow, behaviour_at, names_at, next_on, row, row_at};
+ghost use Rattle.script_actors.specs.Table.{AddsRow, IsHere, SetsRow, Table, behaviour_at, names_at, next_on, row, row_at};
+ghost use Rattle.script_actors.specs.declared.rows.Row.{Row};
 ghost use Rattle.script_actors.specs.Standing.{AreActorsAt, names_now};
 ghost use Rattle.script_actors.specs.Turns.{IsTurnOf, left_now};
 
@@ -91,6 +92,27 @@ impl ScriptActors {
         )
     }
 
+    /// The names of an actor that is not in a turn: they are with its turn from now on. Constant time.
+    pub fn give_names(&mut self, actor: ActorId) -> Locals
+        requires { IsSome (names_at self.old actor) }
+        ensures names { names_at self.old actor ≡ Some result }
+        ensures out { SetsRow self.old self.new actor (row (behaviour_at self.old actor) None) }
+        ensures woken { (s : Scripted) (h : List Event) → AreActorsAt s h self.old → AreActorsAt s (Wake actor ∷ h) self.new }
+        ensures taken { (s : Scripted) (h : List Event) → AreActorsAt s h self.old → AreActorsAt s (Take actor ∷ h) self.new }
+    {
+        let behaviour = self.behaviour(actor);
+        self.take_names(actor, behaviour)
+    }
+
+    /// The actor that was born last on its node is taken back: all is as before its birth. Constant time.
+    pub fn take_back(&mut self, actor: ActorId)
+        requires { IsHere self.old actor }
+        ensures { (before : Table) (row : Row) → actor ≡ next_on before actor.node → AddsRow before self.old actor row
+            → self.new ≡ before }
+    {
+        self.nodes[actor.node().get() as usize].take_last();
+    }
+
     /// The names of a turn that ended come back to its actor. Constant time.
     pub fn rest(&mut self, actor: ActorId, names: Locals)
         requires { IsHere self.old actor }
@@ -108,8 +130,8 @@ impl ScriptActors {
         );
     }
 
-    // The number of the actor's behaviour.
-    pub(crate) fn behaviour(&self, actor: ActorId) -> u32
+    /// The number of the actor's behaviour; 0 where there is no such actor. Constant time.
+    pub fn behaviour(&self, actor: ActorId) -> u32
         ensures { result ≡ behaviour_at self.now actor }
     {
         match self.nodes.get(actor.node().get() as usize) {

@@ -1,5 +1,5 @@
 //! The actors of one node.
-ghost use Rattle.std.specs.Prelude.{◌≡◌, ◌<◌, ◌++◌, ◌∷◌, [], length, slice_get, slice_set, OnErr, OnOk, Some};
+ghost use Rattle.std.specs.Prelude.{◌≡◌, ◌-◌, ◌<◌, ◌++◌, ◌∷◌, [], length, slice_get, slice_set, take, OnErr, OnOk, Some};
 ghost use Rattle.script_actors.specs.Table.{behaviour_in};
 
 use behaviour_lang::Locals;
@@ -74,5 +74,12 @@ impl NodeRows {
         ensures after { self.new ≡ slice_set self.old serial row }
     {
         std::mem::replace(&mut self.rows[serial], row)
+    }
+
+    /// The last row is taken out, if there is one. Constant time.
+    pub fn take_last(&mut self)
+        ensures { self.new ≡ take (length self.old - 1) self.old }
+    {
+        self.rows.truncate(self.rows.len().saturating_sub(1));
     }
 }

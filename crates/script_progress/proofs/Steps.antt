@@ -14,10 +14,10 @@ use Rattle.history_model.specs.State.{is_busy, is_root, is_up}
 use Rattle.history_model.specs.Tally.{tally}
 use Rattle.history_model.proofs.AccountsBirths.{born-grows, newborn-born}
 use Rattle.history_model.proofs.Basics.{eqb-refl, first_broken-none, same_actor-equal}
-use Rattle.fault_plan.specs.Rows.{Planned}
+use Rattle.fault_plan.specs.Rows.{Planned, crash_of}
 use Rattle.script_reader.specs.Valid.{Scripted}
 use Rattle.run_model.specs.Doing.{cluster_of, row_of}
-use Rattle.run_model.specs.Planned.{begun, ended, ended_on, has_row, is_possible, is_rest, is_rest_on, is_wake_of, next_wake, wakes_left, wakes_of}
+use Rattle.run_model.specs.Planned.{begun, crash_due, ended, ended_on, has_row, is_possible, is_rest, is_rest_on, is_wake_of, next_wake, node_if, wakes_left, wakes_of}
 use Rattle.run_model.specs.Round.{is_of_round}
 use Rattle.run_model.proofs.ActsLegal.{none-broken}
 use Rattle.run_model.proofs.LowestActors.{find-lowest, find-nobody}
@@ -201,3 +201,16 @@ has-room s h p n stands short = record {
   ended = (let same = stands.ended in let few = tally-length is_rest h in omega (arith, same, few, short));
   there = (let same = stands.ended_on n in let few = tally-length (is_rest_on n) h in omega (arith, same, few, short));
 }
+
+-- ---- the next crash
+
+pub due-next : (s : Scripted) (h : List Event) (p : Used) (a : Actor) (n after : ℕ) → a.node ≡ n → IsProgressAt s h p → crash_of n (let plan = p.plan in plan.crashes) ≡ Some after
+    → (k : ℕ) → k ≡ ended_in p n → crash_due s (Rest a ∷ h) ≡ (if after == k + 1 then Some a.node else None)
+due-next s h p a n after on stands row k is =
+    let plan = stands.plan in
+    let all : Planned = s.plan in
+    let rows : crash_of a.node all.crashes ≡ Some after = ap (crash_of a.node) (sym plan.crashes) ∙ ap (λ m. crash_of m (let plan = p.plan in plan.crashes)) on ∙ row in
+    let turns : ended_on a.node (Rest a ∷ h) ≡ k + 1 =
+    ap (λ v. if v then ended_on a.node h + 1 else ended_on a.node h) (eqb-refl a.node)
+    ∙ ap (λ m. m + 1) (sym (stands.ended_on a.node) ∙ ap (ended_in p) on ∙ sym is) in
+    λ i. node_if (rows i) a.node (turns i)

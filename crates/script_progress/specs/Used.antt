@@ -50,6 +50,10 @@ is_after (Some after) turns = after == turns
 abbrev pub is_crash_due : Used → ℕ → Bool
 is_crash_due p n = (let plan = p.plan in is_after (crash_of n plan.crashes) (ended_in p n))
 
+-- whether the node crashes with the next turn that ends there
+abbrev pub crashes_next : Used → ℕ → Bool
+crashes_next p n = (let plan = p.plan in is_after (crash_of n plan.crashes) (ended_in p n + 1))
+
 -- what is left to happen to the copy: a repeat, else a loss, else its admission
 abbrev pub carry_in : Planned → ℕ → ℕ → ℕ → Carry
 carry_in plan f d k = if has_row f d k plan.repeats then Repeat else if has_row f d k plan.losses then Lose else Admit
@@ -88,3 +92,20 @@ AreAllPassed p = (b : Actor) → b.node < length p.nodes → IsActorBelow b p.ne
 -- the second actor is the first one, or above it
 abbrev pub IsFrom : Actor → Actor → Type 0
 IsFrom a b = (a.node < b.node) ⊎ ((a.node ≡ b.node) × (a.serial ≤ b.serial))
+
+-- the actor is above the one that is given, if one is
+abbrev pub IsAbove : Option Actor → Actor → Type 0
+IsAbove None a = Unit {0}
+IsAbove (Some b) a = IsActorBelow b a
+
+-- the lowest actor, of those above the one that is given, that has a wake left; None where there is none
+abbrev pub IsNextPlanned : Used → Option Actor → Option Actor → Type 0
+IsNextPlanned p after None = (a : Actor) → IsAbove after a → wakes_in p a ≡ 0
+IsNextPlanned p after (Some c) =
+    IsAbove after c × (0 < wakes_in p c) × ((a : Actor) → IsAbove after a → IsActorBelow a c → wakes_in p a ≡ 0)
+
+-- the lowest actor, from this one on, that has a wake left; None where there is none
+abbrev pub IsFirstPlanned : Used → Actor → Option Actor → Type 0
+IsFirstPlanned p from None = (a : Actor) → IsFrom from a → wakes_in p a ≡ 0
+IsFirstPlanned p from (Some c) =
+    IsFrom from c × (0 < wakes_in p c) × ((a : Actor) → IsFrom from a → IsActorBelow a c → wakes_in p a ≡ 0)

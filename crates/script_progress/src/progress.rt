@@ -8,7 +8,7 @@ ghost use Rattle.history_model.specs.declared.events.Event.TheVariants.{Lose as 
 ghost use Rattle.fault_plan.specs.Rows.{link_row, same_row};
 ghost use Rattle.script_reader.specs.Valid.{Scripted};
 ghost use Rattle.run_model.specs.Planned.{carry, crash_due, ended, has_row, is_within_budget, wakes_left};
-ghost use Rattle.script_progress.specs.Used.{AreAllPassed, ArePassed, Ends, HasRoom, IsFrom, Wakes, carried, carry_in, ended_in, is_crash_due, wakes_in, with_turn};
+ghost use Rattle.script_progress.specs.Used.{AreAllPassed, ArePassed, Ends, HasRoom, IsFrom, Wakes, carried, carry_in, IsFirstPlanned, IsNextPlanned, crashes_next, ended_in, is_crash_due, wakes_in, with_turn};
 ghost use Rattle.script_progress.specs.Standing.{IsProgressAt, can_wake};
 
 use crate::carry::Carry;
@@ -84,6 +84,18 @@ impl Progress {
     {
         match self.plan.crash_after(node) {
             Some(after) => after == self.ended_on(node),
+            None => false,
+        }
+    }
+
+    /// Whether the node crashes with the next turn that ends there. Linear time in at most 16 rows.
+    pub fn crashes_next(&self, node: NodeId) -> bool
+        ensures value { result ≡ crashes_next self.now node }
+        ensures stands { (s : Scripted) (h : List Event) (a : Actor) → a.node ≡ node → IsProgressAt s h self.now
+            → crash_due s (Rest a ∷ h) ≡ (if result then Some a.node else None) }
+    {
+        match self.plan.crash_after(node) {
+            Some(after) => after as u64 == self.ended_on(node) as u64 + 1,
             None => false,
         }
     }
@@ -195,6 +207,31 @@ impl Progress {
             } else {
                 0
             };
+            if let Some(serial) = self.nodes[n].next_with_wakes(from) {
+                return Some(seed_at(n, serial));
+            }
+        }
+        None
+    }
+
+    /// The lowest actor, of those above the one that is given, that has a wake left; None exactly where there is none. Linear time
+    /// in the seeds that it passes.
+    pub fn next_planned(&self, after: Option<ActorId>) -> Option<ActorId>
+        ensures { IsNextPlanned self.now after result }
+    {
+        let (node, serial) = match after {
+            Some(actor) => (actor.node().get() as usize, actor.serial() as usize + 1),
+            None => (0, 0),
+        };
+        self.first_planned(node, serial)
+    }
+
+    // The lowest actor that has a wake left, from this one on.
+    fn first_planned(&self, node: usize, serial: usize) -> Option<ActorId>
+        ensures { IsFirstPlanned self.now (record { node = node; serial = serial }) result }
+    {
+        for n in node..self.nodes.len() {
+            let from = if n == node { serial } else { 0 };
             if let Some(serial) = self.nodes[n].next_with_wakes(from) {
                 return Some(seed_at(n, serial));
             }
