@@ -3,10 +3,15 @@ use Rattle.std.specs.Prelude.{ℕ, List, ◌++◌, codes, decimal}
 use Rattle.crgc_ids.specs.declared.Which.{Which}
 use Rattle.journal_model.specs.Lines.{line_of}
 use Rattle.journal_player.specs.declared.fault.Cause.{Cause}
-use Rattle.cluster_top.specs.Words.{cause_word, limit_word}
+use Rattle.script_reader.specs.declared.fault.ScriptFault.{ScriptFault}
+use Rattle.cluster_top.specs.Words.{cause_word, fault_words, limit_word}
 
 abbrev pub usage_line : List ℕ
 usage_line = line_of (codes "fault 2 usage")
+
+-- the first fault of a script
+abbrev pub script_line : ScriptFault → List ℕ
+script_line fault = line_of (codes "fault 3 " ++ fault_words fault)
 
 abbrev pub read_line : List ℕ
 read_line = line_of (codes "fault 4 read")

@@ -1,7 +1,8 @@
 pub mod Words
 pub mod FaultLines
 pub mod Input
-pub mod Refusals
 pub mod PlayOutcome
+pub mod RunOutcome
 pub mod GenOutcome
+pub mod Refusals
 pub mod Outcome

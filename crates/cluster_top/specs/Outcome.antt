@@ -6,15 +6,16 @@ use Rattle.command_words.specs.Commands.{Spells}
 use Rattle.command_words.specs.declared.command.Command.{Command}
 use Rattle.command_words.specs.declared.command.Command.TheVariants.{Play, Run, Gen}
 use Rattle.cluster_top.specs.declared.status.Status.{Status}
-use Rattle.cluster_top.specs.declared.status.Status.TheVariants.{Done, Usage, ReadFault, WriteFault, Limit, Journal, NoMemory}
+use Rattle.cluster_top.specs.declared.status.Status.TheVariants.{Done, Usage, Script, ReadFault, WriteFault, Limit, Journal, NoMemory}
 use Rattle.cluster_top.specs.FaultLines.{usage_line}
 use Rattle.cluster_top.specs.GenOutcome.{GenCameTo}
 use Rattle.cluster_top.specs.PlayOutcome.{PlayCameTo}
+use Rattle.cluster_top.specs.RunOutcome.{RunCameTo}
 
--- the program carries the command out
+-- the program carries the command out: a run has no worker threads yet
 abbrev pub IsCarriedOut : Command → Type 0
 IsCarriedOut (Play brief) = Unit {0}
-IsCarriedOut (Run workers brief) = ⊥
+IsCarriedOut (Run workers brief) = workers ≡ 0
 IsCarriedOut (Gen seed size) = Unit {0}
 
 -- the words are a command that the program carries out
@@ -25,7 +26,7 @@ IsTask words = (c : Command) × Spells words c × IsCarriedOut c
 abbrev pub CommandCameTo : {S : Type 0} → (left : S → Option (List ℕ)) (given : S → List ℕ) (ended : S → Bool)
     (faults : S → ℕ) (old new : S) → Command → Status → List ℕ → Type 0
 CommandCameTo left given ended faults old new (Play brief) status text = PlayCameTo left given ended faults old new brief status text
-CommandCameTo left given ended faults old new (Run workers brief) status text = ⊥
+CommandCameTo left given ended faults old new (Run workers brief) status text = RunCameTo left given ended faults old new brief status text
 CommandCameTo left given ended faults old new (Gen seed size) status text = GenCameTo old new seed size status text
 
 -- what the call came to: what the words ask for, or `Usage` where they are no such command
@@ -55,6 +56,7 @@ IsOutcome left given ended reads held taken writes words source source' sink sin
 abbrev pub exit_number_of : Status → ℕ
 exit_number_of Done = 0
 exit_number_of Usage = 2
+exit_number_of (Script fault) = 3
 exit_number_of ReadFault = 4
 exit_number_of (WriteFault written) = 5
 exit_number_of (Limit which) = 6

@@ -1,12 +1,12 @@
 -- What `play` comes to: the status, and the text that is then to be written.
 use Rattle.std.specs.Prelude.{ℕ, ◌≡◌, ◌⊎◌, Bool, List, Option, Ok, Err}
+use Rattle.cluster_course.specs.Collected.{IsRightlyCollected}
 use Rattle.history_model.specs.Story.{Story}
 use Rattle.journal_model.specs.Journals.{journal_of, limit}
 use Rattle.journal_model.specs.Verdicts.{report_text}
-use Rattle.cluster_course.specs.Collected.{IsRightlyCollected}
 use Rattle.journal_player.specs.Faults.{fault_of}
 use Rattle.cluster_top.specs.declared.status.Status.{Status}
-use Rattle.cluster_top.specs.declared.status.Status.TheVariants.{Done, Usage, ReadFault, WriteFault, Limit, Journal, NoMemory}
+use Rattle.cluster_top.specs.declared.status.Status.TheVariants.{Done, Usage, Script, ReadFault, WriteFault, Limit, Journal, NoMemory}
 use Rattle.cluster_top.specs.FaultLines.{journal_line, limit_line, memory_line, read_line}
 use Rattle.cluster_top.specs.Input.{Failed, GaveAll, GaveSome, GaveTooMuch}
 
@@ -29,5 +29,6 @@ PlayCameTo left given ended faults old new brief (Limit which) text =
     × (journal_of journal ≡ Err (line, limit which)) × (text ≡ limit_line which)
 PlayCameTo left given ended faults old new brief ReadFault text = Failed left given faults old new × (text ≡ read_line)
 PlayCameTo left given ended faults old new brief NoMemory text = GaveSome left given faults old new × (text ≡ memory_line)
+PlayCameTo left given ended faults old new brief (Script fault) text = ⊥
 PlayCameTo left given ended faults old new brief Usage text = ⊥
 PlayCameTo left given ended faults old new brief (WriteFault written) text = ⊥

@@ -1,11 +1,22 @@
 -- The words by which a fault line names what is wrong.
-use Rattle.std.specs.Prelude.{ℕ, List, codes}
+use Rattle.std.specs.Prelude.{ℕ, List, ◌++◌, codes}
 use Rattle.crgc_ids.specs.declared.Which.{Which}
 use Rattle.crgc_ids.specs.declared.Which.TheVariants.{Input, Events, Actors, Delta}
 use Rattle.history_model.specs.declared.events.Rule.{Rule}
 use Rattle.history_model.specs.declared.events.Rule.TheVariants as rules
 use Rattle.journal_player.specs.declared.fault.Cause.{Cause}
 use Rattle.journal_player.specs.declared.fault.Cause.TheVariants as causes
+use Rattle.script_reader.specs.declared.fault.ScriptFault.{ScriptFault}
+use Rattle.script_reader.specs.declared.fault.ScriptFault.TheVariants.{Json, Key, Missing, Kind, Range, UnknownBehaviour}
+
+-- the words of a script's fault, with the name of the object, of the key or of the behaviour
+abbrev pub fault_words : ScriptFault → List ℕ
+fault_words Json = codes "json"
+fault_words (Key object) = codes "key " ++ object
+fault_words (Missing key) = codes "missing " ++ key
+fault_words (Kind name) = codes "kind " ++ name
+fault_words (Range key) = codes "range " ++ key
+fault_words (UnknownBehaviour name) = codes "unknown-behaviour " ++ name
 
 -- the word of a limit
 abbrev pub limit_word : Which → List ℕ

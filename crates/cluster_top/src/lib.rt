@@ -6,6 +6,8 @@ mod generating;
 mod input;
 mod playing;
 mod refusal;
+mod running;
+mod script_lines;
 mod status;
 #[cfg(test)]
 mod tests;
@@ -13,5 +15,6 @@ mod top;
 
 pub use crgc_ids::Which;
 pub use journal_player::Cause;
+pub use script_reader::ScriptFault;
 pub use status::Status;
 pub use top::{crgc_top, plain_top, wants_workers};

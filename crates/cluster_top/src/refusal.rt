@@ -1,12 +1,14 @@
 //! Why the program writes a fault line in place of a report.
 ghost use Rattle.std.specs.Prelude.{◌≡◌, IfOk};
 ghost use Rattle.cluster_top.specs.FaultLines.{journal_line, limit_line};
-ghost use Rattle.cluster_top.specs.Refusals.{IsRefusalOf, line_for, status_of};
+ghost use Rattle.cluster_top.specs.Refusals.{IsRefusalOf, IsRefusalOfScript, line_for, status_of};
 
 use crate::causes::cause_word;
+use crate::script_lines::script_line;
 use crate::status::Status;
 use crgc_ids::{NoMemory, Octets, Which};
 use journal_player::{Cause, PlayFault};
+use script_reader::ScriptFault;
 use std::alloc::Global;
 
 /// Why the program writes a fault line in place of a report.
@@ -14,9 +16,14 @@ use std::alloc::Global;
 pub enum Refusal {
     /// The words are no command.
     Usage,
+    /// The script's first fault, and the line that tells it.
+    Script {
+        fault: ScriptFault,
+        text: Octets,
+    },
     /// A read failed.
     ReadFault,
-    /// The journal passes this limit.
+    /// The input, the journal or the script's run passes this limit.
     Limit(Which),
     /// The journal's first faulty line, what is wrong with it, and the line that tells both.
     Journal {
@@ -43,18 +50,26 @@ impl Refusal {
         }
     }
 
+    /// That of a script with this first fault, or `NoMemory` where its line needs more than there is.
+    pub fn of_script(alloc: Global, fault: ScriptFault) -> Refusal
+        ensures { IsRefusalOfScript fault result }
+    {
+        match script_line(alloc, &fault) {
+            Ok(text) => Refusal::Script { fault, text },
+            Err(NoMemory) => Refusal::NoMemory,
+        }
+    }
+
     /// The status with which the program then ends.
-    pub fn status(&self) -> Status
-        ensures { result ≡ status_of self.now }
+    pub fn into_status(self) -> Status
+        ensures { result ≡ status_of self }
     {
         match self {
             Refusal::Usage => Status::Usage,
+            Refusal::Script { fault, .. } => Status::Script(fault),
             Refusal::ReadFault => Status::ReadFault,
-            Refusal::Limit(which) => Status::Limit(*which),
-            Refusal::Journal { line, cause, .. } => Status::Journal {
-                line: *line,
-                cause: *cause,
-            },
+            Refusal::Limit(which) => Status::Limit(which),
+            Refusal::Journal { line, cause, .. } => Status::Journal { line, cause },
             Refusal::NoMemory => Status::NoMemory,
         }
     }
@@ -65,6 +80,7 @@ impl Refusal {
     {
         match self {
             Refusal::Usage => b"fault 2 usage\n",
+            Refusal::Script { text, .. } => text.as_slice(),
             Refusal::ReadFault => b"fault 4 read\n",
             Refusal::Limit(which) => limit_line(*which),
             Refusal::Journal { text, .. } => text.as_slice(),

@@ -1,7 +1,6 @@
-use crate::{Cause, Status, Which, crgc_top, plain_top};
+use crate::{crgc_top, plain_top};
 use crgc_ids::ActorId;
 use crgc_io::{Gate, MemorySink, MemorySource, QuietGate};
-use history_model::Rule;
 use std::alloc::Global;
 use std::sync::atomic::{AtomicU64, Ordering};
 use std::test::Fail;
@@ -69,8 +68,36 @@ const THIRD_TAKE: &str =
 const LAST_REFERENCE_TO_A_PARENT: &str =
     "crgc 2 nodes 1\nseed 0\nwake 0.0\nspawn 0.0\nsend 0.0 0.1\ntake 0.1\ndrop 0.1 0.0\n";
 
-/// With these words and this input: the status, and the bytes that were written.
-fn ended(alloc: Global, words: &[&str], input: &str) -> Result<(Status, Vec<u8>), Fail> {
+const A_MESSAGE_IS_LOST: &str =
+    "{\"nodes\":3,\"behaviours\":[{\"name\":\"maker\",\"wake\":[[\"spawn\",\"x\",\"cell\"],\
+     [\"send\",\"b\",\"x\"],[\"send\",\"c\",\"x\"],[\"drop\",\"x\"]]},\
+     {\"name\":\"friend\",\"message\":[[\"spawn\",\"y\",\"cell\"],[\"send\",\"m0\",\"y\"],\
+     [\"send\",\"y\",\"m0\"],[\"drop\",\"y\"]]},\
+     {\"name\":\"poke\",\"message\":[[\"send\",\"m0\"]]},\
+     {\"name\":\"cell\",\"message\":[[\"keep\",\"k\",\"m0\"]]}],\"seeds\":[\
+     {\"node\":0,\"behaviour\":\"maker\",\"wakes\":1},\
+     {\"node\":1,\"behaviour\":\"friend\",\"wakes\":0},\
+     {\"node\":2,\"behaviour\":\"poke\",\"wakes\":0}],\"ties\":[\
+     {\"from\":0,\"to\":1,\"as\":\"b\"},{\"from\":0,\"to\":2,\"as\":\"c\"}],\"crashes\":[\
+     {\"node\":2,\"after\":1}],\"turns\":100,\"losses\":[{\"from\":1,\"to\":0,\"number\":0}]}";
+
+const A_MESSAGE_IS_LOST_REPORT: &str =
+    "crgc 2 nodes 3\nseed 0\nseed 1\nseed 2\ntie 0.0 1.0\ntie 0.0 2.0\nwake 0.0\nspawn 0.0\n\
+     send 0.0 1.0 0.1\nsend 0.0 2.0 0.1\ndrop 0.0 0.1\nrest 0.0\nadmit 0 1 0\nadmit 0 2 0\n\
+     take 1.0\nspawn 1.0\nsend 1.0 0.1 1.1\nsend 1.0 1.1 0.1\ndrop 1.0 1.1\ndrop 1.0 0.1\n\
+     rest 1.0\nlose 1 0 0\ntake 1.1\nrest 1.1\ntake 2.0\nsend 2.0 0.1\ndrop 2.0 0.1\n\
+     rest 2.0\ncrash 2\nadmit 2 0 0\ntake 0.1\nrest 0.1\nremove 0 2\nremove 1 2\nwindow 1 0\n\
+     flush 0.0\nflush 0.1\npublish 0\nflush 1.0\nflush 1.1\npublish 1\nhand 0 0 0\n\
+     hand 0 0 1\nhand 0 1 0\nhand 0 1 1\nhand 0 1 2\nhand 1 0 0\nhand 1 0 1\nhand 1 1 0\n\
+     hand 1 1 1\nhand 1 1 2\nsweep 0\ncut 0 2 3 0 lost 2\nsweep 1\ncut 1 2 3 0 lost 2\n\
+     end events 52 stopped 0\n";
+
+const A_MESSAGE_IS_LOST_IN_BRIEF: &str =
+    "crgc 2 nodes 3\nnode 0 born 2 stopped 0\nnode 1 born 2 stopped 0\nnode 2 born 1 stopped 0\n\
+     total born 5 stopped 0\n";
+
+/// With these words and this input: the number with which the program ends, and the bytes that were written.
+fn ended(alloc: Global, words: &[&str], input: &str) -> Result<(u8, Vec<u8>), Fail> {
     let mut said = Vec::new(alloc);
     for word in words {
         said.push(String::from_str(alloc, word)?)?;
@@ -81,7 +108,7 @@ fn ended(alloc: Global, words: &[&str], input: &str) -> Result<(Status, Vec<u8>)
         .ok()
         .ok_or("memory")?;
     let status = plain_top(alloc, said.as_slice(), &mut source, &mut sink);
-    Ok((status, sink.bytes().to_vec(alloc)?))
+    Ok((status.exit_number(), sink.bytes().to_vec(alloc)?))
 }
 
 #[test]
@@ -102,10 +129,10 @@ fn what_the_last_event_makes_due_is_told_last(rt: HostRuntime) -> Result<(), Fai
         ),
     ];
     for (input, more) in cases {
-        let (status, written) = ended(rt.alloc(), &["play"], input)?;
+        let (number, written) = ended(rt.alloc(), &["play"], input)?;
         let mut report = input.as_bytes().to_vec(rt.alloc())?;
         report.extend_from_slice(more.as_bytes())?;
-        assert_eq!(rt; status, Status::Done);
+        assert_eq!(rt; number, 0);
         assert_eq!(rt; written.as_slice(), report.as_slice());
     }
     Ok(())
@@ -121,8 +148,8 @@ fn each_sweep_is_told_where_it_comes_and_in_brief_in_numbers(rt: HostRuntime) ->
         (brief, DROPPED_CHILD, BRIEF_REPORT),
     ];
     for (words, input, report) in cases {
-        let (status, written) = ended(rt.alloc(), words, input)?;
-        assert_eq!(rt; status, Status::Done);
+        let (number, written) = ended(rt.alloc(), words, input)?;
+        assert_eq!(rt; number, 0);
         assert_eq!(rt; written.as_slice(), report.as_bytes());
     }
     Ok(())
@@ -131,59 +158,71 @@ fn each_sweep_is_told_where_it_comes_and_in_brief_in_numbers(rt: HostRuntime) ->
 #[test]
 fn the_first_faulty_line_is_told(rt: HostRuntime) -> Result<(), Fail> {
     let cases = [
-        ("", 1, Cause::Header, "fault 7 line 1 header\n"),
-        (
-            "crgc 1 nodes 17\n",
-            1,
-            Cause::Header,
-            "fault 7 line 1 header\n",
-        ),
-        (
-            "crgc 1 nodes 1\nSeed 0\n",
-            2,
-            Cause::Word,
-            "fault 7 line 2 word\n",
-        ),
-        (
-            "crgc 1 nodes 1\nseed 00\n",
-            2,
-            Cause::Field,
-            "fault 7 line 2 field\n",
-        ),
-        (
-            "crgc 1 nodes 1\nseed 0 \n",
-            2,
-            Cause::Extra,
-            "fault 7 line 2 extra\n",
-        ),
-        (
-            CHANGED_STOP,
-            13,
-            Cause::Differs,
-            "fault 7 line 13 differs\n",
-        ),
+        ("", "fault 7 line 1 header\n"),
+        ("crgc 1 nodes 17\n", "fault 7 line 1 header\n"),
+        ("crgc 1 nodes 1\nSeed 0\n", "fault 7 line 2 word\n"),
+        ("crgc 1 nodes 1\nseed 00\n", "fault 7 line 2 field\n"),
+        ("crgc 1 nodes 1\nseed 0 \n", "fault 7 line 2 extra\n"),
+        (CHANGED_STOP, "fault 7 line 13 differs\n"),
         (
             "crgc 1 nodes 1\nend events 0 stopped 0\nseed 0\n",
-            3,
-            Cause::AfterEnd,
             "fault 7 line 3 after-end\n",
         ),
+        (THIRD_TAKE, "fault 7 line 12 no-mail\n"),
+        (LAST_REFERENCE_TO_A_PARENT, "fault 7 line 7 supervisor\n"),
+    ];
+    for (input, told) in cases {
+        let (number, written) = ended(rt.alloc(), &["play"], input)?;
+        assert_eq!(rt; number, 7);
+        assert_eq!(rt; written.as_slice(), told.as_bytes());
+    }
+    Ok(())
+}
+
+#[test]
+fn a_script_is_run_to_its_report_and_in_brief_to_its_numbers(rt: HostRuntime) -> Result<(), Fail> {
+    let full = ["run", "--workers", "0"].as_slice();
+    let brief = ["run", "--brief", "--workers=0"].as_slice();
+    let cases = [
+        (full, A_MESSAGE_IS_LOST_REPORT),
+        (brief, A_MESSAGE_IS_LOST_IN_BRIEF),
+    ];
+    for (words, report) in cases {
+        let (number, written) = ended(rt.alloc(), words, A_MESSAGE_IS_LOST)?;
+        assert_eq!(rt; number, 0);
+        assert_eq!(rt; written.as_slice(), report.as_bytes());
+    }
+    Ok(())
+}
+
+#[test]
+fn the_first_fault_of_a_script_is_told(rt: HostRuntime) -> Result<(), Fail> {
+    let cases = [
+        ("{", "fault 3 json\n"),
         (
-            THIRD_TAKE,
-            12,
-            Cause::Rule(Rule::NoMail),
-            "fault 7 line 12 no-mail\n",
+            "{\"nodes\":1,\"behaviours\":[],\"seeds\":[],\"turns\":1,\"extra\":0}",
+            "fault 3 key script\n",
         ),
         (
-            LAST_REFERENCE_TO_A_PARENT,
-            7,
-            Cause::Rule(Rule::Supervisor),
-            "fault 7 line 7 supervisor\n",
+            "{\"nodes\":1,\"behaviours\":[],\"seeds\":[]}",
+            "fault 3 missing turns\n",
+        ),
+        (
+            "{\"nodes\":1.0,\"behaviours\":[],\"seeds\":[],\"turns\":1}",
+            "fault 3 kind nodes\n",
+        ),
+        (
+            "{\"nodes\":17,\"behaviours\":[],\"seeds\":[],\"turns\":1}",
+            "fault 3 range nodes\n",
+        ),
+        (
+            "{\"nodes\":1,\"behaviours\":[],\"seeds\":[{\"node\":0,\"behaviour\":\"ghost\",\"wakes\":0}],\"turns\":1}",
+            "fault 3 unknown-behaviour ghost\n",
         ),
     ];
-    for (input, line, cause, told) in cases {
-        let (status, written) = ended(rt.alloc(), &["play"], input)?;
-        assert_eq!(rt; status, Status::Journal { line, cause });
+    for (input, told) in cases {
+        let (number, written) = ended(rt.alloc(), &["run", "--workers", "0"], input)?;
+        assert_eq!(rt; number, 3);
         assert_eq!(rt; written.as_slice(), told.as_bytes());
     }
     Ok(())
@@ -198,7 +237,7 @@ fn an_input_that_is_too_long_passes_a_limit(rt: HostRuntime) -> Result<(), Fail>
         .ok()
         .ok_or("memory")?;
     let status = plain_top(rt.alloc(), &words, &mut source, &mut sink);
-    assert_eq!(rt; status, Status::Limit(Which::Input));
+    assert_eq!(rt; status.exit_number(), 6);
     assert_eq!(rt; sink.bytes(), b"fault 6 limit input\n".as_slice());
     Ok(())
 }
@@ -208,7 +247,7 @@ fn other_words_are_refused_and_the_source_is_not_read(rt: HostRuntime) -> Result
     let cases = [
         ["play", "--help"],
         ["--brief", "play"],
-        ["run", "--workers=0"],
+        ["run", "--workers=1"],
         ["gen", "--seed=7"],
     ];
     for [command, option] in cases {
@@ -231,7 +270,7 @@ fn other_words_are_refused_and_the_source_is_not_read(rt: HostRuntime) -> Result
             &QuietGate,
             &mut kept,
         );
-        assert_eq!(rt; status, Status::Usage);
+        assert_eq!(rt; status.exit_number(), 2);
         assert_eq!(rt; sink.bytes(), b"fault 2 usage\n".as_slice());
     }
     Ok(())
@@ -251,7 +290,7 @@ fn a_script_is_made_and_the_source_is_not_read(rt: HostRuntime) -> Result<(), Fa
         String::from_str(rt.alloc(), "7")?,
     ];
     let status = plain_top(rt.alloc(), &words, &mut source, &mut sink);
-    assert_eq!(rt; status, Status::Done);
+    assert_eq!(rt; status.exit_number(), 0);
     assert_eq!(rt; sink.bytes().len(), 1551);
     assert!(rt;
         sink.bytes().starts_with(b"{\"behaviours\":[{\"message\":[[\"spawn\",\"y\",\"cell\"]")
@@ -295,7 +334,7 @@ fn playing_begins_no_turn(rt: HostRuntime) -> Result<(), Fail> {
         &gate,
         &mut kept,
     );
-    assert_eq!(rt; status, Status::Done);
+    assert_eq!(rt; status.exit_number(), 0);
     assert_eq!(rt; sink.bytes(), DROPPED_CHILD_REPORT.as_bytes());
     assert_eq!(rt; gate.turns.load(Ordering::SeqCst), 0);
     assert!(rt; kept.is_none());
@@ -312,7 +351,7 @@ fn a_failing_edge_is_told(rt: HostRuntime) -> Result<(), Fail> {
         .ok()
         .ok_or("memory")?;
     let status = plain_top(rt.alloc(), &words, &mut source, &mut sink);
-    assert_eq!(rt; status, Status::WriteFault { written: 8 });
+    assert_eq!(rt; status.exit_number(), 5);
     assert_eq!(rt; sink.bytes(), b"crgc 1 n".as_slice());
     let first = [0].to_vec(rt.alloc())?;
     let mut broken = MemorySource::new(Vec::new(rt.alloc()), 7, first);
@@ -320,7 +359,7 @@ fn a_failing_edge_is_told(rt: HostRuntime) -> Result<(), Fail> {
         .ok()
         .ok_or("memory")?;
     let status = plain_top(rt.alloc(), &words, &mut broken, &mut whole);
-    assert_eq!(rt; status, Status::ReadFault);
+    assert_eq!(rt; status.exit_number(), 4);
     assert_eq!(rt; whole.bytes(), b"fault 4 read\n".as_slice());
     Ok(())
 }

@@ -6,6 +6,7 @@ ghost use Rattle.cluster_top.specs.Refusals.{line_for, status_of};
 use crate::generating::generated;
 use crate::playing::played;
 use crate::refusal::Refusal;
+use crate::running::ran;
 use crate::status::Status;
 use command_words::{Command, read_command};
 use crgc_io::{Gate, Sink, Source, WriteFault, write_all};
@@ -47,8 +48,8 @@ pub fn plain_top<S: Source, K: Sink>(
     ensures writes_never_fall { K.faults sink.old ≤ K.faults sink.new }
 {
     match answer(alloc, words, source) {
-        Ok(report) => write_out(sink, report.as_slice(), Status::Done),
-        Err(refusal) => write_out(sink, refusal.line(), refusal.status()),
+        Ok(text) => write_text(sink, text.as_slice()),
+        Err(refusal) => write_refusal(sink, refusal),
     }
 }
 
@@ -70,18 +71,30 @@ fn answer<S: Source>(alloc: Global, words: &[String], source: &mut S) -> Result<
     match read_command(words) {
         Some(Command::Play { brief }) => played(alloc, source, brief),
         Some(Command::Gen { seed, size }) => generated(alloc, seed, size),
+        Some(Command::Run { workers: 0, brief }) => ran(alloc, source, brief),
         Some(Command::Run { .. }) => Err(Refusal::Usage),
         None => Err(Refusal::Usage),
     }
 }
 
-// Writes the text, and answers the status, or that a write failed.
-fn write_out<K: Sink>(sink: &mut K, text: &[u8], status: Status) -> Status
-    ensures written { IsWritten K.held K.taken K.faults sink.old sink.new status text.now result }
+// Writes the text, and answers that it was done, or that a write failed.
+fn write_text<K: Sink>(sink: &mut K, text: &[u8]) -> Status
+    ensures written { IsWritten K.held K.taken K.faults sink.old sink.new Status.Done text.now result }
     ensures never_falls { K.faults sink.old ≤ K.faults sink.new }
 {
     match write_all(sink, text) {
-        Ok(()) => status,
+        Ok(()) => Status::Done,
+        Err(WriteFault { written }) => Status::WriteFault { written },
+    }
+}
+
+// Writes the line of the refusal, and answers its status, or that a write failed.
+fn write_refusal<K: Sink>(sink: &mut K, refusal: Refusal) -> Status
+    ensures written { IsWritten K.held K.taken K.faults sink.old sink.new (status_of refusal) (line_for refusal) result }
+    ensures never_falls { K.faults sink.old ≤ K.faults sink.new }
+{
+    match write_all(sink, refusal.line()) {
+        Ok(()) => refusal.into_status(),
         Err(WriteFault { written }) => Status::WriteFault { written },
     }
 }

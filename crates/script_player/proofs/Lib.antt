@@ -1,0 +1,13 @@
+pub mod Searching
+pub mod Carries
+pub mod Takes
+pub mod Halting
+pub mod Schedules
+pub mod Ranges
+pub mod Standings
+pub mod Work
+pub mod Walks
+pub mod TurnWays
+pub mod Idle
+pub mod Wakes
+pub mod Begun

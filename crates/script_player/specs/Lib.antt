@@ -1,0 +1,5 @@
+pub mod Reported
+pub mod Beginning
+pub mod Links
+pub mod Making
+pub mod Standing

@@ -1,0 +1,19 @@
+//! Scripts run by the fixed schedule, to the report of the one history that it gives.
+#![tactic(auto)]
+
+mod beginning;
+mod carrying;
+mod driver;
+mod ending;
+mod fault;
+mod making;
+mod player;
+mod stepping;
+mod turning;
+mod waking;
+
+pub use fault::RunFault;
+pub use player::run;
+
+#[cfg(test)]
+mod tests;
