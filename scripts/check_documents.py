@@ -5,7 +5,8 @@
   repository, and the lines up to the next one have to be its output. A line `...` stands for any lines.
 - A fenced block that names a file after its language shows a part of that file, and a line `...` leaves lines out.
 - A link to a file of the repository, and to a heading, has to lead somewhere; so does a path in backquotes that begins with a
-  folder of the repository.
+  folder of the repository, or with a crate and a folder of it.
+- In the table of crates each crate stands on what crates.txt says.
 - A name in backquotes in a page about code, definitions or proofs has to stand in one of these, so none outlives what it names.
 - Each file in examples/ is named by some document.
 - What other scripts make is what they make now: the pictures, the index of contracts, and the marks of definitions.
@@ -27,15 +28,17 @@ PROGRAM = "bin/crgc"
 LEFT_BY_GATE = "crates/crgc_main/out/crgc_main"
 FOLDERS = ("crates/", "docs/", "examples/", "scripts/", ".ci/")
 PATH = re.compile(r"`((?:crates|docs|examples|scripts|\.ci)/[^`\s*<>{}]*)`")
+PATH_IN_CRATE = re.compile(r"`(\w+/(?:src|specs|proofs|must-fail)/[\w/]+\.\w+)`")
 LINK = re.compile(r"\]\(([^)\s]+)\)")
 MADE_BY_SCRIPTS = ("scripts/draw-pictures", "scripts/list-contracts", "scripts/mark-definitions")
 ABOUT_NAMES = ("docs/ARCHITECTURE.md", "docs/CLAIM.md", "docs/DEFINITIONS.md", "docs/PROOF.md")
 PARTS_OF_NAMES = ("Is", "Are")
+CRATES = "docs/ARCHITECTURE.md"
 ANY_LINES = "..."
 
 
 def documents():
-    return sorted(glob.glob("*.md")) + sorted(glob.glob("docs/*.md"))
+    return sorted(glob.glob("*.md")) + sorted(glob.glob("docs/*.md")) + sorted(glob.glob("crates/*/README.md"))
 
 
 def read_lines(name):
@@ -184,6 +187,8 @@ def check_links(name, lines, report):
         for path in PATH.findall(line):
             good = os.path.exists(path) or any(os.path.exists(path.split(mark)[0]) for mark in (" ", "::") if mark in path)
             report.check(good, f"{name}:{number}", f"there is no {path}")
+        for path in PATH_IN_CRATE.findall(line):
+            report.check(os.path.exists("crates/" + path), f"{name}:{number}", f"there is no crates/{path}")
 
 
 def known_names():
@@ -208,6 +213,23 @@ def check_names(name, lines, names, report):
                 report.check(word in names, f"{name}:{number}", f"nothing is named {word}")
 
 
+def check_crates(report):
+    """The table of crates in the page of the architecture, beside crates.txt."""
+    uses = {}
+    for line in read_lines("crates.txt"):
+        crate, _, libraries = line.split("#")[0].partition(":")
+        if crate.strip():
+            uses[crate.split()[0]] = libraries.split()
+    shown = {}
+    for line in read_lines(CRATES):
+        cells = [cell.strip() for cell in line.split(" | ")]
+        found = re.fullmatch(r"\| `(\w+)`", cells[0])
+        if found and len(cells) == 4:
+            shown[found.group(1)] = re.findall(r"`(\w+)`", cells[3])
+    for crate in sorted(uses.keys() | shown.keys()):
+        report.check(sorted(uses.get(crate, [])) == sorted(shown.get(crate, ["?"])), CRATES, f"{crate} stands on {' '.join(uses.get(crate, []))}")
+
+
 def main():
     os.chdir(os.path.join(os.path.dirname(os.path.abspath(sys.argv[0])), ".."))
     renew = "--renew" in sys.argv[1:]
@@ -227,12 +249,13 @@ def main():
             elif len(words) > 1:
                 check_quote(name, start, words[1], shown, report)
         check_links(name, lines, report)
-        if name in ABOUT_NAMES:
+        if name in ABOUT_NAMES or name.startswith("crates/"):
             names = names or known_names()
             check_names(name, lines, names, report)
         if renew:
             with open(name, "w", encoding="utf-8") as handle:
                 handle.write("\n".join(lines))
+    check_crates(report)
     for example in sorted(glob.glob("examples/*")):
         report.check(example in all_text, example, "no document names it")
     for script in MADE_BY_SCRIPTS:

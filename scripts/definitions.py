@@ -7,6 +7,7 @@ from collections import OrderedDict
 HEAD = re.compile(r"^\s*(?:abbrev pub|unfoldable pub|pub record|pub data|pub inductive) (\S+)")
 USE = re.compile(r"^\s*(?:pub use|use|ghost use) Rattle\.(\w+)\.specs\.([\w.]+?)\.\{([^}]*)\}", re.MULTILINE)
 USE_AS = re.compile(r"^\s*(?:use|ghost use) Rattle\.(\w+)\.specs\.([\w.]+) as (\w+)", re.MULTILINE)
+OTHER = re.compile(r"^(?:(?:pub )?(?:use|mod|module|infixl?|infixr) |\S+ : )")
 WORD = re.compile(r"[^\s(){}\[\];:,.→λ×≡⊎¬∷]+")
 
 
@@ -80,7 +81,7 @@ class File:
             if head:
                 current = head.group(1)
                 self.bodies[current] = []
-            elif line.startswith("--") or line.startswith("use "):
+            elif OTHER.match(line):
                 current = None
             if current and not line.lstrip().startswith("--"):
                 self.bodies[current].append(line.split(" -- ")[0])
@@ -108,6 +109,9 @@ def file_of(name):
 def resolve(file_name, word):
     """What a word of a file of definitions names: a definition or a type of the repository, or nothing."""
     here = file_of(file_name)
+    operator = f"◌{word}◌"
+    if operator in here.bodies or operator in here.imports:
+        word = operator
     if word in here.bodies:
         return ("definition", file_name, word)
     if word in here.constructors:
@@ -174,9 +178,9 @@ class Contracts:
         for names in re.findall(r"^pub use (?:\w+::)+(?:\{([^}]*)\}|(\w+))", root, re.MULTILINE):
             self.exported |= {name.strip() for name in (names[0] or names[1]).split(",")}
         modules = set(re.findall(r"^pub mod (\w+)", root, re.MULTILINE))
-        for name in sorted(glob.glob(os.path.join(folder, "*.rt"))):
-            module = os.path.basename(name)[:-3]
-            if module.endswith("tests"):
+        for name in sorted(glob.glob(os.path.join(folder, "**", "*.rt"), recursive=True)):
+            module = os.path.relpath(name, folder)[:-3].split(os.sep)[0]
+            if os.path.basename(name).endswith("tests.rt"):
                 continue
             self.read_file(name, module in ("lib", "main"), module in modules, is_law_module(crate, module))
 
