@@ -338,23 +338,23 @@ class Reading:
             self.fault = 1, "header"
             return
         self.cluster = Cluster(int(header[1]), int(header[2]))
-        ended = False
+        self.ended = False
         for number, line in enumerate(lines[1:], 2):
-            cause = self.read(line, number, ended)
+            cause = self.read(line, number)
             if cause:
                 self.fault = number, cause
                 return
-            ended = ended or self.last == "end"
 
-    def read(self, line, number, ended):
+    def read(self, line, number):
+        """The cause of the line's fault, or None; an event is applied."""
         try:
             event = read_line(line)
         except Misspelled as fault:
             return fault.args[0]
-        if ended:
+        if self.ended:
             return "after-end"
-        self.last = event[0]
         if event[0] in PRINTED:
+            self.ended = event[0] == "end"
             self.may_differ.append(number)
             return None
         cause = self.cluster.refusal(event)

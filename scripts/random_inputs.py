@@ -141,7 +141,7 @@ def spoil(text, rng):
     elif way == 5:
         return text[: rng.randrange(len(text) + 1)]
     elif way == 6:
-        lines[place] = lines[place].replace(b"\n", b"") + b"\r"
+        lines[place] += b"\r"
     else:
         lines[place] = misspell_line(lines[place], rng)
     return b"\n".join(lines)
