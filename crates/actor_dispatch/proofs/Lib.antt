@@ -1,0 +1,4 @@
+pub mod Leaving
+pub mod Making
+pub mod Replies
+pub mod Starting

@@ -1,0 +1,5 @@
+use Rattle.actor_dispatch.proofs.Leaving.{both-then}
+use Rattle.actor_dispatch.proofs.carrying.carry_to.Goals as goal
+
+pub loop-n-preserved : goal.loop-n-preserved
+loop-n-preserved g c = both-then c.args.pass.now c.loop-n.pass c.carry.new.pass c.loop-n.invariant c.carry.ensures.same c.in-Ok.ensures.turns

@@ -1,0 +1,11 @@
+pub mod Standings
+pub mod Moving
+pub mod Answering
+pub mod Fitting
+pub mod Searches
+pub mod Coded
+pub mod Ready
+pub mod Openings
+pub mod Effects
+pub mod TurnEvents
+pub mod Starts
