@@ -9,7 +9,8 @@ use crate::pieces::Pieces;
 /// None exactly where it spells none.
 pub fn read_header(line: &[u8]) -> Option<(u8, u8)>
     ensures { MatchOption result
-        ((nodes version : ℕ) → 1 ≤ nodes → nodes ≤ 16 → 1 ≤ version → version ≤ 2 → header_line (record { nodes = nodes; version = version }) ≡ line.now → ⊥)
+        ((nodes version : ℕ) → 1 ≤ nodes → nodes ≤ 16 → 1 ≤ version → version ≤ 2
+        → header_line (record { nodes = nodes; version = version }) ≡ line.now → ⊥)
         (λ r. (1 ≤ r.0) × (r.0 ≤ 16) × (1 ≤ r.1) × (r.1 ≤ 2) × (header_line (record { nodes = r.0; version = r.1 }) ≡ line.now)) }
 {
     Pieces::of(line, b' ').header()

@@ -57,7 +57,8 @@ has_put_later : (pass key : ℕ) (later history : Log) → calls_of pass later �
 has_put_later pass key [] history none = refl
 has_put_later pass key (e ∷ later) history none = by_test (eqb e.pass pass) none (has_put_later pass key later history)
   where
-    by_test : (b : Bool) → cond b (e ∷ calls_of pass later) (calls_of pass later) ≡ [] → (calls_of pass later ≡ [] → has_put pass key (later ++ history) ≡ has_put pass key history)
+    by_test : (b : Bool) → cond b (e ∷ calls_of pass later) (calls_of pass later) ≡ []
+        → (calls_of pass later ≡ [] → has_put pass key (later ++ history) ≡ has_put pass key history)
         → cond b (has_put_after e.op e.reply key (has_put pass key (later ++ history))) (has_put pass key (later ++ history)) ≡ has_put pass key history
     by_test true n rest = absurd (cc)
     by_test false n rest = rest n

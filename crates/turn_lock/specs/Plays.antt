@@ -24,7 +24,8 @@ module _ {S P R : Type 0} where
 
   -- the call stands in the log, and the slot is given back
   abbrev pub hands_on : Told S P R
-  hands_on st m r n = (room : Room S P R) (last : Last P R) → m.1 ≡ (0, room) ∷ [] → room.last ≡ Some last → n ≡ (called m.0 last.op.value last.reply.value, [])
+  hands_on st m r n = (room : Room S P R) (last : Last P R) → m.1 ≡ (0, room) ∷ [] → room.last ≡ Some last
+      → n ≡ (called m.0 last.op.value last.reply.value, [])
 
   -- of the two histories of the last join, one begins the other
   abbrev pub compares : Told S P R

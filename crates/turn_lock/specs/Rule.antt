@@ -21,7 +21,8 @@ total f (v ∷ vs) = f v + total f vs
 
 -- of the views with the flag, no two have one key
 abbrev pub Apart : {V : Type 0} → (V → ℕ) → (V → ℕ) → List V → Type 0
-Apart {V} flag key views = (i j : ℕ) (u v : V) → get_elem? views i ≡ some u → get_elem? views j ≡ some v → flag u ≡ 1 → flag v ≡ 1 → key u ≡ key v → i ≡ j
+Apart {V} flag key views = (i j : ℕ) (u v : V) → get_elem? views i ≡ some u → get_elem? views j ≡ some v
+    → flag u ≡ 1 → flag v ≡ 1 → key u ≡ key v → i ≡ j
 
 module _ {S P R : Type 0} where
   -- a live view has this number

@@ -23,7 +23,11 @@ friend_words =
     ∷ []
 
 abbrev pub maker_words : List (List (List ℕ))
-maker_words = (codes "spawn" ∷ codes "x" ∷ codes "cell" ∷ []) ∷ (codes "send" ∷ codes "b" ∷ codes "x" ∷ []) ∷ (codes "drop" ∷ codes "x" ∷ []) ∷ []
+maker_words =
+    (codes "spawn" ∷ codes "x" ∷ codes "cell" ∷ [])
+    ∷ (codes "send" ∷ codes "b" ∷ codes "x" ∷ [])
+    ∷ (codes "drop" ∷ codes "x" ∷ [])
+    ∷ []
 
 abbrev pub cell_words : List (List (List ℕ))
 cell_words = (codes "keep" ∷ codes "k" ∷ codes "m0" ∷ []) ∷ []

@@ -27,7 +27,8 @@ pub record IsStateOf (start : Opening) (history : Calls) (state : Opening) : Typ
 pub state_of_nothing : (start : Opening) → IsStateOf start [] start
 state_of_nothing start = record { course = tt; script = refl; past = refl; claims = λ n. refl; halt = refl }
 
-pub still_may_make : (start : Opening) (later history : Calls) (op : Op) (pass : ℕ) → calls_of pass later ≡ [] → MayMake start history op pass → MayMake start (later ++ history) op pass
+pub still_may_make : (start : Opening) (later history : Calls) (op : Op) (pass : ℕ)
+    → calls_of pass later ≡ [] → MayMake start history op pass → MayMake start (later ++ history) op pass
 still_may_make start later history op pass none may = record { sound = may.sound; fits = still-fits start later history op pass none may.fits }
 
 -- the cluster stands for some calls, after which the pass may make the operation
