@@ -2,15 +2,11 @@
 use Rattle.std.proofs.Common.{◌≡◌, ◌<◌, ℕ, refl, sym, ap, subst, inl, inr}
 use Rattle.std.proofs.lemmas.Cmp.{nat_cmp_total, on_total, then_total}
 use Rattle.std.specs.Cmp.{IsTotalOrder, nat_cmp_is}
-use Rattle.std.specs.Ordering.{MatchOrdering, nat_cmp, ordering_then}
+use Rattle.std.specs.Ordering.{MatchOrdering, nat_cmp}
 use Rattle.std.specs.declared.cmp.Ordering.{Ordering}
 use Rattle.std.specs.declared.cmp.Ordering.TheVariants.{Less, Equal, Greater}
 use Rattle.crgc_ids.proofs.ActorLaws.{actor_cases}
-use Rattle.crgc_ids.specs.Actor.{Actor, IsActorBelow}
-
--- actors are compared by node, then by serial
-abbrev pub actor_cmp : Actor → Actor → Ordering
-actor_cmp a b = ordering_then (nat_cmp a.node b.node) (nat_cmp a.serial b.serial)
+use Rattle.crgc_ids.specs.Actor.{Actor, IsActorBelow, actor_cmp}
 
 pub actor_cmp-total : IsTotalOrder actor_cmp
 actor_cmp-total = then_total (on_total (λ (a : Actor). a.node) nat_cmp_total) (on_total (λ (a : Actor). a.serial) nat_cmp_total)

@@ -1,5 +1,7 @@
 -- What contracts see of an actor: its node's number, and its serial on that node.
-use Rattle.std.specs.Prelude.{ℕ, ◌≡◌, ◌<◌, ◌⊎◌, ◌==◌, ◌&&◌, ◌||◌, Bool, nat_lt}
+use Rattle.std.specs.Prelude.{ℕ, ◌≡◌, ◌+◌, ◌*◌, ◌<◌, ◌⊎◌, ◌==◌, ◌&&◌, ◌||◌, Bool, nat_lt}
+use Rattle.std.specs.Ordering.{nat_cmp, ordering_then}
+use Rattle.std.specs.declared.cmp.Ordering.{Ordering}
 
 pub record Actor : Type 0 where
   pub node : ℕ
@@ -25,3 +27,11 @@ same_actor a b = (a.node == b.node) && (a.serial == b.serial)
 -- whether the first actor is below the second
 abbrev pub is_actor_below : Actor → Actor → Bool
 is_actor_below a b = nat_lt a.node b.node || ((a.node == b.node) && nat_lt a.serial b.serial)
+
+-- actors are compared by node, then by serial
+abbrev pub actor_cmp : Actor → Actor → Ordering
+actor_cmp a b = ordering_then (nat_cmp a.node b.node) (nat_cmp a.serial b.serial)
+
+-- the two numbers as one
+abbrev pub actor_number : Actor → ℕ
+actor_number a = a.node * 262144 + a.serial

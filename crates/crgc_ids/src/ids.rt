@@ -1,6 +1,13 @@
 //! Nodes and actors, as numbers in range.
+ghost use Rattle.std.proofs.Common.{rules};
+ghost use Rattle.std.specs.Cmp.{partial_order_from_own_ties};
+ghost use Rattle.std.specs.Cmp.Rules.{comparing, hashing};
+ghost use Rattle.std.specs.Ordering.{as_partial_cmp};
+ghost use Rattle.std.specs.Hash as fed;
 ghost use Rattle.std.specs.Prelude.{◌≡◌, ◌<◌, ◌≤◌, ◌↔◌, IfSome, IfNone, OnSome};
 
+use std::cmp::Ordering;
+use std::hash::{Hash, Hasher};
 use std::marker::Model;
 
 /// A node of the cluster, numbered from 0 to 15. Contracts see its number.
@@ -45,24 +52,81 @@ impl NodeId {
 }
 
 /// An actor of the cluster: the node on which it lives, and its serial there, counted from 0 and below 262,144.
-/// Actors are ordered by node, then serial. Contracts see the record of the two numbers.
-#[derive(Clone, Copy, PartialEq, Eq, PartialOrd, Ord, Hash, Debug)]
+/// Actors are ordered by node, then serial. It takes four bytes: the number of the node times 262,144, and the serial.
+/// Contracts see the record of the two numbers.
+#[derive(Clone, Copy, Debug)]
 pub struct ActorId {
-    node: NodeId,
-    serial: u32,
+    number: u32,
 }
 
 impl Model for ActorId {
-    ghost use Rattle.std.specs.Prelude.{◌<◌};
-    ghost use Rattle.crgc_ids.specs.Actor.{Actor};
+    ghost use Rattle.std.specs.Prelude.{◌<◌, ◌/◌, ◌%◌};
+    ghost use Rattle.crgc_ids.specs.Actor.{Actor, actor_number};
 
     ghost Value = { Actor };
 
-    ghost view = { λ a. record { node = a.node; serial = a.serial } };
+    ghost view = { λ a. record { node = a.number / 262144; serial = a.number % 262144 } };
 
-    ghost invariant = { λ a. a.serial < 262144 };
+    ghost invariant = { λ a. a.number < 4194304 };
 
-    ghost inverse = { λ a. record { node = a.node; serial = a.serial } };
+    ghost inverse = { λ a. record { number = actor_number a } };
+}
+
+impl PartialEq for ActorId {
+    ghost use Rattle.crgc_ids.specs.Actor.{same_actor};
+
+    ghost eq = { same_actor };
+
+    ghost laws = { Prim.search (comparing, rules) };
+
+    fn eq(&self, other: &ActorId) -> bool {
+        self.number == other.number
+    }
+}
+
+impl Eq for ActorId {
+    ghost laws = { Prim.search (comparing, rules) };
+}
+
+impl Ord for ActorId {
+    ghost use Rattle.crgc_ids.specs.Actor.{actor_cmp};
+
+    ghost cmp = { actor_cmp };
+
+    ghost total = { Prim.search (comparing, rules) };
+
+    ghost matches_partial_cmp = { Prim.search (comparing, rules) };
+
+    ghost matches_eq = { Prim.search (comparing, rules) };
+
+    fn cmp(&self, other: &ActorId) -> Ordering {
+        self.number.cmp(&other.number)
+    }
+}
+
+impl PartialOrd for ActorId {
+    ghost use Rattle.crgc_ids.specs.Actor.{actor_cmp};
+
+    ghost partial_cmp = { as_partial_cmp actor_cmp };
+
+    ghost laws = { partial_order_from_own_ties (Prim.search (comparing, rules))
+        (Prim.search (comparing, rules)) };
+
+    fn partial_cmp(&self, other: &ActorId) -> Option<Ordering> {
+        Some(self.cmp(other))
+    }
+}
+
+impl Hash for ActorId {
+    ghost use Rattle.crgc_ids.specs.Actor.{actor_number};
+
+    ghost hash_input = { λ a. fed.u32 (actor_number a) };
+
+    ghost respects_eq = { Prim.search (hashing, rules) };
+
+    fn hash<H: Hasher>(&self, state: &mut H) {
+        self.number.hash(state);
+    }
 }
 
 impl ActorId {
@@ -73,7 +137,9 @@ impl ActorId {
         ensures none { IfNone result (262144 ≤ serial) }
     {
         if serial < 262_144 {
-            Some(ActorId { node, serial })
+            Some(ActorId {
+                number: u32::from(node.get()) * 262_144 + serial,
+            })
         } else {
             None
         }
@@ -83,7 +149,9 @@ impl ActorId {
     pub fn node(self) -> NodeId
         ensures { result ≡ self.node }
     {
-        self.node
+        NodeId {
+            number: (self.number / 262_144) as u8,
+        }
     }
 
     /// Its serial on its node, below 262,144.
@@ -91,6 +159,6 @@ impl ActorId {
         ensures number { result ≡ self.serial }
         ensures in_range { result < 262144 }
     {
-        self.serial
+        self.number % 262_144
     }
 }

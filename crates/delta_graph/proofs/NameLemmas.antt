@@ -6,10 +6,9 @@ use Rattle.std.specs.Bool.{⊤}
 use Rattle.std.specs.List.{dedup, dedup_from, list_any}
 use Rattle.std.specs.List.Retain.{DedupsAll, DedupsFrom}
 use Rattle.std.specs.List.Sorted.{IsPermutation, IsSorted}
-use Rattle.crgc_ids.specs.Actor.{Actor, IsActorBelow, is_actor_below, same_actor}
+use Rattle.crgc_ids.specs.Actor.{Actor, IsActorBelow, actor_cmp, is_actor_below, same_actor}
 use Rattle.crgc_ids.specs.declared.rising.PairCount.{PairCount}
 use Rattle.crgc_ids.proofs.ActorLaws.{IsActorBelow-apart, IsActorBelow-trans, same_actor-decides}
-use Rattle.crgc_ids.proofs.ActorOrder.{actor_cmp}
 use Rattle.crgc_ids.proofs.KeyOrders.{actor_order}
 use Rattle.crgc_ids.proofs.RisingLaws.{rising-same}
 use Rattle.history_model.specs.Graph.{insert_actor, rising_actors}

@@ -4,9 +4,9 @@ use Rattle.std.proofs.lemmas.List.Sums.{sum_by-cons}
 use Rattle.std.specs.List.{filter}
 use Rattle.std.specs.Ordering.{is_lt}
 use Rattle.std.specs.Prelude.{Option, Some, unwrap_or}
-use Rattle.crgc_ids.specs.Actor.{Actor, IsActorBelow, same_actor}
+use Rattle.crgc_ids.specs.Actor.{Actor, IsActorBelow, actor_cmp, same_actor}
 use Rattle.crgc_ids.proofs.ActorLaws.{IsActorBelow-apart, actor_cases, same_actor-apart, same_actor-decides}
-use Rattle.crgc_ids.proofs.ActorOrder.{actor_cmp, actor_cmp-above, actor_cmp-below, actor_cmp-same}
+use Rattle.crgc_ids.proofs.ActorOrder.{actor_cmp-above, actor_cmp-below, actor_cmp-same}
 use Rattle.history_model.specs.declared.records.StateRow.{StateRow}
 use Rattle.history_model.specs.Facts.{Flags}
 use Rattle.history_model.specs.Ledgers.{received_total, row_flags, state_flags}

@@ -7,12 +7,12 @@ use Rattle.std.specs.declared.cmp.Ordering.TheVariants.{Less, Equal, Greater}
 use Rattle.std.proofs.lemmas.List.Kept.{IsStrictlySortedBy-dedup}
 use Rattle.std.proofs.lemmas.List.Sorted.{Contains-permutation, IsPermutation-sym, searchable_from_sorted}
 use Rattle.std.proofs.lemmas.Option.{slice_get-get_or}
-use Rattle.crgc_ids.specs.Actor.{Actor, IsActorBelow, is_actor_below, same_actor}
+use Rattle.crgc_ids.specs.Actor.{Actor, IsActorBelow, actor_cmp, is_actor_below, same_actor}
 use Rattle.crgc_ids.specs.Members.{IsAmong}
 use Rattle.crgc_ids.proofs.ActorLaws.{IsActorBelow-apart, actor_cases, is_actor_below-decides, same_actor-decides, same_actor-apart}
 use Rattle.wire_grammar.specs.Named.{index_of, table_of}
 use Rattle.wire_grammar.proofs.Tables.{IsTable, index_of-slice_get, table-same, table_of-has, table_of-only, table_of-rises}
-use Rattle.crgc_ids.proofs.ActorOrder.{actor_cmp, actor_cmp-above, actor_cmp-below, actor_cmp-same, actor_cmp-tells, actor_cmp-total}
+use Rattle.crgc_ids.proofs.ActorOrder.{actor_cmp-above, actor_cmp-below, actor_cmp-same, actor_cmp-tells, actor_cmp-total}
 
 -- what the answer says of the order
 below_from_cmp : (a b : Actor) → actor_cmp a b ≡ Less → IsActorBelow a b

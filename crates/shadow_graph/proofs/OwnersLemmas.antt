@@ -11,10 +11,10 @@ use Rattle.std.specs.Ordering.{MatchOrdering, is_lt}
 use Rattle.std.specs.declared.cmp.Ordering.{Ordering}
 use Rattle.std.specs.declared.cmp.Ordering.TheVariants.{Equal, Greater, Less}
 use Rattle.crgc_ids.proofs.ActorLaws.{IsActorBelow-apart, IsActorBelow-trans, same_actor-decides}
-use Rattle.crgc_ids.proofs.ActorOrder.{actor_cmp, actor_cmp-below, actor_cmp-tells, actor_cmp-total}
+use Rattle.crgc_ids.proofs.ActorOrder.{actor_cmp-below, actor_cmp-tells, actor_cmp-total}
 use Rattle.crgc_ids.proofs.MembersLaws.{IsAmong-filter, IsAmong-from_filter}
 use Rattle.crgc_ids.proofs.RisingLaws.{IsRising-filter, rising-same}
-use Rattle.crgc_ids.specs.Actor.{Actor, IsActorBelow, same_actor}
+use Rattle.crgc_ids.specs.Actor.{Actor, IsActorBelow, actor_cmp, same_actor}
 use Rattle.crgc_ids.specs.Members.{IsAmong}
 use Rattle.crgc_ids.specs.Nodes.{has_node, nodes_below}
 use Rattle.crgc_ids.specs.Rising.{IsRising}

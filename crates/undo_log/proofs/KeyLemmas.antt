@@ -10,9 +10,9 @@ use Rattle.std.specs.Option.{option_cmp}
 use Rattle.std.specs.Ordering.{MatchOrdering, is_lt}
 use Rattle.std.specs.declared.cmp.Ordering.TheVariants.{Equal, Greater, Less}
 use Rattle.crgc_ids.proofs.ActorLaws.{IsActorBelow-apart, IsActorBelow-trans, same_actor-decides}
-use Rattle.crgc_ids.proofs.ActorOrder.{actor_cmp, actor_cmp-tells}
+use Rattle.crgc_ids.proofs.ActorOrder.{actor_cmp-tells}
 use Rattle.crgc_ids.proofs.KeyOrders.{IsKeyOrder}
-use Rattle.crgc_ids.specs.Actor.{Actor, IsActorBelow, same_actor}
+use Rattle.crgc_ids.specs.Actor.{Actor, IsActorBelow, actor_cmp, same_actor}
 use Rattle.row_sums.proofs.OrderLemmas.{actors-total}
 use Rattle.row_sums.proofs.RowLemmas.{actors-sorted, not_less}
 use Rattle.row_sums.proofs.SumLemmas.{AtMost}
