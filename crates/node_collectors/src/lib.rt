@@ -3,7 +3,6 @@
 
 mod collectors;
 pub mod laws;
-mod spelling;
 
 pub use collectors::NodeCollectors;
 

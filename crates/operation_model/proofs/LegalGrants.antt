@@ -35,18 +35,12 @@ use Rattle.operation_model.specs.Turns.{Calls}
 use Rattle.operation_model.proofs.Granted.{none-holds}
 use Rattle.operation_model.proofs.GrantedTurns.{deed-act, found, not-false}
 use Rattle.operation_model.proofs.SoundCourses.{act-legal, rest-legal, sound-course}
-
-none-is : {X : Type 0} (v : Option X) → is_none v ≡ true → v ≡ None
-none-is None e = refl
-none-is (Some x) e = absurd (false≢true e)
+use Rattle.run_model.proofs.Possible.{possible-legal}
 
 -- no rule refuses the event, if there is one
 abbrev IsLegalEvent : Scripted → List Event → Option Event → Type 0
 IsLegalEvent s w None = Unit {0}
 IsLegalEvent s w (Some e) = refusal (cluster_of s) e w ≡ None
-
-possible-legal : (s : Scripted) (e : Event) (w : List Event) → is_possible s e w ≡ true → refusal (cluster_of s) e w ≡ None
-possible-legal s e w is = none-is (refusal (cluster_of s) e w) is
 
 -- the lowest node that is possible is possible
 found-legal : (s : Scripted) (make : ℕ → Event) (w : List Event) (v : Option ℕ) → find (λ n. is_possible s (make n) w) (nodes_below s.nodes) ≡ v → IsLegalEvent s w (option_map make v)

@@ -20,3 +20,7 @@ pub mod TurnsDue
 pub mod PartTurns
 pub mod SeedRows
 pub mod LowestActors
+pub mod Numbers
+pub mod Possible
+pub mod Carrying
+pub mod ScriptRanges

@@ -18,6 +18,7 @@ use Rattle.run_model.specs.Follows.{IsRun, are_allowed, fits, is_allowed, is_on_
 use Rattle.run_model.proofs.ActsLegal.{due-legal}
 use Rattle.run_model.proofs.Beginnings.{beginning-holds}
 use Rattle.run_model.proofs.HeldNames.{IsDue, holds-next}
+use Rattle.run_model.proofs.Possible.{no-rule}
 pub use Rattle.run_model.specs.Sound.{IsSound}
 
 -- ---- events that test the same
@@ -84,10 +85,6 @@ allowed-fits s e p allowed =
     let both = and_parts (is_on_time e (crash_due s p)) (fits s e p && is_none (refusal (cluster_of s) e p)) allowed in
     let rest = and_parts (fits s e p) (is_none (refusal (cluster_of s) e p)) both.1 in
     (both.0, rest.0, no-rule (refusal (cluster_of s) e p) rest.1)
-  where
-    no-rule : (r : Option Rule) → is_none r ≡ true → r ≡ None
-    no-rule None e = refl
-    no-rule (Some r) e = absurd (false≢true e)
 
 -- an event that is legal and due keeps it
 pub sound-next : (s : Scripted) (e : Event) (p : List Event) → IsSound s p → refusal (cluster_of s) e p ≡ None → IsDue s e p → IsSound s (e ∷ p)

@@ -30,6 +30,7 @@ use Rattle.run_model.proofs.HeldNames.{IsDue}
 use Rattle.run_model.proofs.RoundSteps.{IsKept, round-keeps}
 use Rattle.run_model.proofs.Runs.{IsSound, run-sound, sound-next}
 use Rattle.run_model.proofs.TurnsDone.{IsBusyIn, acts-done}
+use Rattle.run_model.proofs.Possible.{possible-legal}
 
 -- ---- it gives one history at most
 
@@ -53,13 +54,6 @@ fixed-unique s h g one other =
     one.2 ∙ ap (round (cluster_of s)) same ∙ sym other.2
 
 -- ---- it is sound
-
-possible-legal : (s : Scripted) (e : Event) (h : List Event) → is_possible s e h ≡ true → refusal (cluster_of s) e h ≡ None
-possible-legal s e h possible = no-rule (refusal (cluster_of s) e h) possible
-  where
-    no-rule : (r : Option Rule) → is_none r ≡ true → r ≡ None
-    no-rule None e = refl
-    no-rule (Some r) e = absurd (false≢true e)
 
 -- what is found passes the test, and is one of the list
 found : {X : Type 0} (test : X → Bool) (xs : List X) (x : X) → find test xs ≡ Some x → (test x ≡ true) × IsAmong x xs

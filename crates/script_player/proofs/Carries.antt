@@ -24,43 +24,9 @@ use Rattle.run_model.specs.Schedule.{carries}
 use Rattle.run_model.proofs.ActsLegal.{none-broken}
 use Rattle.script_player.specs.Links.{AreStillBefore, IsLinkBefore, IsStill}
 use Rattle.script_player.specs.Making.{NothingCarried}
-use Rattle.script_player.proofs.Searching.{filter_map-joined, first-in, first-number, none-in, one-fails, one-passes}
-
--- ---- an event on a link is possible
-
--- the rules of a copy on a link are kept
-abbrev pub LinkChecks : Cluster → ℕ → ℕ → ℕ → List Event → List Check
-LinkChecks cl f d k h = link_checks cl f d h ++ check NotOnLink (nat_lt 0 (copies f d k h)) ∷ []
-
--- what happens to a copy has these rules, whatever the plan says
-carry-rules : (s : Scripted) (f d k : ℕ) (h g : List Event) → checks (cluster_of s) (carry s f d k g) h ≡ LinkChecks (cluster_of s) f d k h
-carry-rules s f d k h g =
-    let plan : Planned = s.plan in
-    let repeats = has_row f d k plan.repeats && not (list_any (is_repeat f d k) g) in
-    let loses = has_row f d k plan.losses && not (list_any (is_lose f d k) g) in
-    elim repeats as (λ v. checks (cluster_of s) (if v then Repeat f d k else if loses then Lose f d k else Admit f d k) h ≡ LinkChecks (cluster_of s) f d k h) [
-      | true ↦ refl
-      | false ↦ elim loses as (λ v. checks (cluster_of s) (if v then Lose f d k else Admit f d k) h ≡ LinkChecks (cluster_of s) f d k h) [ true ↦ refl | false ↦ refl ]
-    ]
-
-no-rule : (r : Option Rule) → is_none r ≡ true → r ≡ None
-no-rule None e = refl
-no-rule (Some r) e = absurd (false≢true e)
-
--- on an open link between two nodes each copy may be carried
-pub carry-legal : (s : Scripted) (f d k : ℕ) (h : List Event) → f < s.nodes → d < s.nodes → f ≢ d → IsOnOpenLink f d h k → refusal (cluster_of s) (carry s f d k h) h ≡ None
-carry-legal s f d k h source at apart (opened, some) =
-    let both = and_parts (is_up d h) (not (is_closed f d h)) opened in
-    let kept : AreKept (LinkChecks (cluster_of s) f d k h) =
-    (lt-ltb f s.nodes source, (lt-ltb d s.nodes at, (ap not (ne_eqb f d apart), (both.0, (both.1, (lt-ltb 0 (copies f d k h) some, tt)))))) in
-    ap first_broken (carry-rules s f d k h h) ∙ none-broken (LinkChecks (cluster_of s) f d k h) kept
-
--- and what may be carried is on an open link between two nodes
-pub carry-open : (s : Scripted) (f d k : ℕ) (h : List Event) → is_possible s (carry s f d k h) h ≡ true → (f ≢ d) × IsOnOpenLink f d h k
-carry-open s f d k h possible =
-    let none : first_broken (LinkChecks (cluster_of s) f d k h) ≡ None = sym (ap first_broken (carry-rules s f d k h h)) ∙ no-rule (refusal (cluster_of s) (carry s f d k h) h) possible in
-    let kept = first_broken-none (LinkChecks (cluster_of s) f d k h) none in
-    (λ same. false≢true (sym (ap not (eq-eqb f d same)) ∙ kept.1.1.0), (rw (kept.1.1.1.0, kept.1.1.1.1.0) refl, ltb-true 0 (copies f d k h) kept.1.1.1.1.1.0))
+use Rattle.script_player.proofs.Searching.{filter_map-joined, first-in, none-in, one-fails, one-passes}
+use Rattle.run_model.proofs.Numbers.{first-number}
+use Rattle.run_model.proofs.Carrying.{carry-legal, carry-open}
 
 -- ---- the first link with a head
 

@@ -32,6 +32,7 @@ use Rattle.script_player.specs.Reported.{IsRunFault}
 use Rattle.script_player.specs.Standing.{IsBetween, IsPlainAct, Stands, StandsAt}
 use Rattle.script_player.proofs.Halting.{halts-scheduled}
 use Rattle.script_player.proofs.Schedules.{schedule-next}
+use Rattle.run_model.proofs.Possible.{no-rule}
 
 -- with a longer history, for which the actors and the progress stand
 pub stands-next : (d d' : Driver) (h : List Event) → Stands d → d'.script.value ≡ d.script.value → d'.nodes ≡ d.nodes → d'.code ≡ d.code
@@ -126,10 +127,6 @@ plain-no_plan a (Retire b) plain = refl
 plain-no_plan a _ plain = absurd plain
 
 -- ---- carries
-
-pub no-rule : (r : Option Rule) → is_none r ≡ true → r ≡ None
-no-rule None e = refl
-no-rule (Some r) e = absurd (false≢true e)
 
 pub found-passes : {X : Type 0} (test : X → Bool) (xs : List X) (x : X) → find test xs ≡ Some x → test x ≡ true
 found-passes test [] x e = absurd (none-some x e)

@@ -16,7 +16,7 @@ use Rattle.script_reader.specs.Valid.{Scripted}
 use Rattle.traffic.specs.Readings.{IsNextReady}
 use Rattle.run_model.specs.Doing.{cluster_of}
 use Rattle.run_model.specs.Planned.{actors, is_possible}
-use Rattle.script_player.proofs.Standings.{no-rule}
+use Rattle.run_model.proofs.Possible.{no-rule}
 use Rattle.script_player.proofs.Searching.{first-in, map-joined, none-in, one-fails, one-passes, passes-none}
 
 module _ (s : Scripted) (h : List Event) where

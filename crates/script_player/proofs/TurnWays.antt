@@ -40,8 +40,9 @@ use Rattle.script_player.specs.Standing.{GoesOn, HasRested, IsActedOut, IsBetwee
 use Rattle.script_player.proofs.Halting.{halts-more}
 use Rattle.script_player.proofs.Ranges.{begins-legal, between-legal}
 use Rattle.script_player.proofs.Schedules.{ended-is, ended-longer, none-woken, one-taken, one-woken, rounded-longer, whole-begun, whole-longer, whole-more, within-short}
-use Rattle.script_player.proofs.Standings.{between-next, found-passes, no-rule}
+use Rattle.script_player.proofs.Standings.{between-next, found-passes}
 use Rattle.script_player.proofs.Takes.{first-ready, none-ready}
+use Rattle.run_model.proofs.Possible.{no-rule}
 
 -- ---- it begins
 

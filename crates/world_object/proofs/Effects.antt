@@ -38,7 +38,7 @@ use Rattle.world_object.specs.declared.parts.ClusterParts.{ClusterParts}
 use Rattle.world_object.specs.Answering.{Grants, Halts, HaltsBefore, Happens, IsDone, Makes, events_of, refused_by}
 use Rattle.world_object.specs.Standing.{Stands, opening_of}
 use Rattle.std.proofs.lemmas.Bool.{and_parts, cases_eq, eq-eqb, ltb-true, ne_eqb}
-use Rattle.world_object.proofs.Searches.{possible-legal}
+use Rattle.run_model.proofs.Possible.{possible-legal}
 use Rattle.world_object.proofs.Standings.{stands-round, stands-rounds}
 
 pub happens-makes : (events : List Event) (old new : ClusterParts) → Happens events old new → Makes events old new

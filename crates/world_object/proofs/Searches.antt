@@ -32,40 +32,9 @@ use Rattle.world_object.specs.Searching.{HasRow}
 use Rattle.operation_model.specs.Courses.{if_possible, next_carried, next_removal, next_window}
 use Rattle.script_progress.specs.Standing.{IsProgressAt}
 use Rattle.script_progress.specs.Used.{IsAbove, IsNextPlanned, Used, carry_in, wakes_in}
-
--- ---- numbers
-
--- how the first number stands to the one that is sought
-order-cases : (i j : ℕ) → i ≤ j → (P : Type 0) → (i ≡ j → P) → (i + 1 ≤ j → P) → P
-order-cases zero zero le P same more = same refl
-order-cases zero (suc j) le P same more = more (omega arith)
-order-cases (suc i) zero le P same more = absurd (omega (arith, le))
-order-cases (suc i) (suc j) le P same more = order-cases i j (omega (arith, le)) P (λ e. same (ap suc e)) (λ less. more (omega (arith, less)))
-
--- a number is the first one that passes
-first-number : (test : ℕ → Bool) (n i j : ℕ) → i ≤ j → j < i + n → ((k : ℕ) → i ≤ k → k < j → test k ≡ false) → test j ≡ true → find test (range_with_len i n) ≡ Some j
-first-number test zero i j above below fails passes = absurd (omega (arith, above, below))
-first-number test (suc n) i j above below fails passes =
-    order-cases i j above (find test (range_with_len i (suc n)) ≡ Some j)
-    (λ same. subst (λ k. cond (test k) (Some k) (find test (range_with_len (i + 1) n)) ≡ Some j) (sym same) (rw passes refl))
-    (λ more. (let first = fails i (omega arith) (omega (arith, more)) in
-    rw first (first-number test n (i + 1) j more (omega (arith, below)) (λ k over under. fails k (omega (arith, over)) under) passes)))
-
--- no number passes
-no-number : (test : ℕ → Bool) (n i : ℕ) → ((k : ℕ) → i ≤ k → k < i + n → test k ≡ false) → find test (range_with_len i n) ≡ None
-no-number test zero i fails = refl
-no-number test (suc n) i fails =
-    let first = fails i (omega arith) (omega arith) in
-    rw first (no-number test n (i + 1) (λ k over under. fails k (omega (arith, over)) (omega (arith, under))))
-
--- ---- rules
-
-no-rule : (r : Option Rule) → is_none r ≡ true → r ≡ None
-no-rule None e = refl
-no-rule (Some r) e = absurd (false≢true e)
-
-pub possible-legal : (s : Scripted) (e : Event) (h : List Event) → is_possible s e h ≡ true → refusal (cluster_of s) e h ≡ None
-possible-legal s e h possible = no-rule (refusal (cluster_of s) e h) possible
+use Rattle.run_model.proofs.Numbers.{first-number, no-number}
+use Rattle.run_model.proofs.Possible.{possible-legal}
+use Rattle.run_model.proofs.Carrying.{carry-legal, carry-open}
 
 -- ---- nodes
 
@@ -85,36 +54,6 @@ pub removal-first : (s : Scripted) (h : List Event) (d : ℕ) (v : Option ℕ) �
 removal-first s h d v lowest = lowest-node s h (Remove d) (λ n legal. (let kept = first_broken-none (checks (cluster_of s) (Remove d n) h) legal in ltb-true n s.nodes kept.1.0)) v lowest
 
 -- ---- links
-
--- the rules of a copy on a link
-abbrev LinkChecks : Cluster → ℕ → ℕ → ℕ → List Event → List Check
-LinkChecks cl f d k h = link_checks cl f d h ++ check NotOnLink (nat_lt 0 (copies f d k h)) ∷ []
-
--- what happens to a copy has these rules, whatever the plan says
-carry-rules : (s : Scripted) (f d k : ℕ) (h g : List Event) → checks (cluster_of s) (carry s f d k g) h ≡ LinkChecks (cluster_of s) f d k h
-carry-rules s f d k h g =
-    let plan : Planned = s.plan in
-    let repeats = has_row f d k plan.repeats && not (list_any (is_repeat f d k) g) in
-    let loses = has_row f d k plan.losses && not (list_any (is_lose f d k) g) in
-    elim repeats as (λ v. checks (cluster_of s) (if v then Repeat f d k else if loses then Lose f d k else Admit f d k) h ≡ LinkChecks (cluster_of s) f d k h) [
-      | true ↦ refl
-      | false ↦ elim loses as (λ v. checks (cluster_of s) (if v then Lose f d k else Admit f d k) h ≡ LinkChecks (cluster_of s) f d k h) [ true ↦ refl | false ↦ refl ]
-    ]
-
--- on an open link between two nodes each copy may be carried
-carry-legal : (s : Scripted) (f d k : ℕ) (h : List Event) → f < s.nodes → d < s.nodes → f ≢ d → IsOnOpenLink f d h k → refusal (cluster_of s) (carry s f d k h) h ≡ None
-carry-legal s f d k h source at apart (opened, some) =
-    let both = and_parts (is_up d h) (not (is_closed f d h)) opened in
-    let kept : AreKept (LinkChecks (cluster_of s) f d k h) =
-    (lt-ltb f s.nodes source, (lt-ltb d s.nodes at, (ap not (ne_eqb f d apart), (both.0, (both.1, (lt-ltb 0 (copies f d k h) some, tt)))))) in
-    ap first_broken (carry-rules s f d k h h) ∙ none-broken (LinkChecks (cluster_of s) f d k h) kept
-
--- and what may be carried is on an open link between two nodes
-carry-open : (s : Scripted) (f d k : ℕ) (h : List Event) → is_possible s (carry s f d k h) h ≡ true → (f ≢ d) × IsOnOpenLink f d h k
-carry-open s f d k h possible =
-    let none : first_broken (LinkChecks (cluster_of s) f d k h) ≡ None = sym (ap first_broken (carry-rules s f d k h h)) ∙ no-rule (refusal (cluster_of s) (carry s f d k h) h) possible in
-    let kept = first_broken-none (LinkChecks (cluster_of s) f d k h) none in
-    (λ same. false≢true (sym (ap not (eq-eqb f d same)) ∙ kept.1.1.0), (rw (kept.1.1.1.0, kept.1.1.1.1.0) refl, ltb-true 0 (copies f d k h) kept.1.1.1.1.1.0))
 
 module _ (s : Scripted) (f d : ℕ) (h : List Event) where
   abbrev Carried : Option ℕ → Type 0

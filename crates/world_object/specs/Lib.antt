@@ -4,4 +4,3 @@ pub mod Answering
 pub mod Searching
 pub mod Turns
 pub mod Locked
-pub mod Rows

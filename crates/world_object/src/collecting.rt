@@ -9,7 +9,7 @@ ghost use Rattle.run_model.specs.Doing.{cluster_of};
 ghost use Rattle.world_object.specs.Searching.{SpellsNumber};
 
 use crate::parts::ClusterParts;
-use crate::spelling::is_spellable;
+use bulletin_spelling::is_spellable;
 use bulletin_streams::laws::bulletins_fit_the_wire;
 use crgc_ids::{NoMemory, NodeId, Octets};
 use graph_wire::write;

@@ -4,7 +4,7 @@ use Rattle.script_reader.specs.Valid.{Scripted}
 use Rattle.script_reader.specs.declared.script.Seed.{Seed as SeedRow}
 use Rattle.script_player.specs.declared.driver.Driver.{Driver}
 use Rattle.script_player.proofs.Begun.{begun-between}
-use Rattle.script_player.proofs.Ranges.{seeds-on_nodes}
+use Rattle.run_model.proofs.ScriptRanges.{seeds-on_nodes}
 use Rattle.script_player.proofs.driver.Driver.with_course.Goals as goal
 
 pub begin-requires-2-clause-seeds : goal.begin-requires-2-clause-seeds

@@ -1,7 +1,7 @@
 use Rattle.std.proofs.Common.{take}
 use Rattle.std.specs.List.{AllByRecursion}
-use Rattle.node_collectors.specs.Rows.{IsInRange}
-use Rattle.node_collectors.proofs.spelling.counts_in_range.Given as goal
+use Rattle.bulletin_spelling.specs.Rows.{IsInRange}
+use Rattle.bulletin_spelling.proofs.spelling.counts_in_range.Given as goal
 
 abbrev pub invariant-loop-row : goal.invariant-loop-row
 invariant-loop-row l = AllByRecursion IsInRange (take l.row-index l.rows)

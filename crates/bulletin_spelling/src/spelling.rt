@@ -1,4 +1,4 @@
-//! What fits the wire has a spelling. The functions only read, and answer nothing: their contracts are the law, since the types of
+//! A bulletin that fits the wire has a spelling. The functions only read, and answer nothing: their contracts are the law, since the types of
 //! the rows keep their numbers in range.
 ghost use Rattle.std.specs.Prelude.{◌≢◌, ◌<◌, ◌^◌, length};
 ghost use Rattle.std.specs.List.{AllByRecursion};
@@ -6,7 +6,7 @@ ghost use Rattle.crgc_ids.specs.Actor.{IsActor};
 ghost use Rattle.history_model.specs.Ledgers.{delta_ledger, window_ledger};
 ghost use Rattle.bulletin_streams.specs.Standing.{FitsWire, HasFewRows};
 ghost use Rattle.wire_grammar.specs.Spellable.{AreCounts, ArePairs, AreStates, IsDelta, IsSpellable, IsStateRow, IsWindow};
-ghost use Rattle.world_object.specs.Rows.{IsInRange, IsPairInRange};
+ghost use Rattle.bulletin_spelling.specs.Rows.{IsInRange, IsPairInRange};
 
 use crgc_ids::{ActorCount, ActorCounts, ActorId, PairCount, PairCounts};
 use history_model::{Bulletin, Delta, StateRow, StateRows, Window};

@@ -1,0 +1,6 @@
+//! What fits the wire has a spelling.
+#![tactic(auto)]
+
+mod spelling;
+
+pub use spelling::is_spellable;

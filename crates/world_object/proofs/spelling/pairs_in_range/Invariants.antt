@@ -1,7 +1,0 @@
-use Rattle.std.proofs.Common.{take}
-use Rattle.std.specs.List.{AllByRecursion}
-use Rattle.world_object.specs.Rows.{IsPairInRange}
-use Rattle.world_object.proofs.spelling.pairs_in_range.Given as goal
-
-abbrev pub invariant-loop-row : goal.invariant-loop-row
-invariant-loop-row l = AllByRecursion IsPairInRange (take l.row-index l.rows)
