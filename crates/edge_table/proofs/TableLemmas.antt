@@ -1,13 +1,10 @@
 -- What stays so of a table of edges.
-use Rattle.std.proofs.Common.{◌≡◌, ◌≢◌, ◌↔◌, ◌||◌, ◌+◌, ◌-◌, ◌<◌, ◌^◌, ℕ, zero, suc, Bool, true, false, cond, not, List, [], ◌∷◌, ◌++◌, Option, Some, None, OnOk, Result, length, get_or, set, map, take, position, refl, sym, ◌∙◌, ap, subst, arith}
+use Rattle.std.proofs.Common.{◌≡◌, ◌≢◌, ◌+◌, ◌-◌, ◌<◌, ◌^◌, ℕ, zero, suc, Bool, true, false, cond, List, [], ◌∷◌, ◌++◌, Option, Some, None, length, get_or, set, map, take, refl, sym, ◌∙◌, ap, subst, arith}
 use Rattle.std.proofs.ByRecursion.{All-push}
-use Rattle.std.proofs.lemmas.Bool.{false≢true, lt-ltb}
-use Rattle.std.proofs.lemmas.Option.{none-some}
-use Rattle.std.proofs.lemmas.List.{length-append, length-set}
-use Rattle.std.specs.List.{AllByRecursion, IsDistinct, list_any, position_or_len}
-use Rattle.std.specs.Option.{IsSome, is_some, option_to_list}
-use Rattle.std.specs.Result.{is_err}
-use Rattle.crgc_ids.proofs.SuccessLaws.{at_success}
+use Rattle.std.proofs.lemmas.Bool.{false≢true}
+use Rattle.std.proofs.lemmas.List.{length-append, length-set, length-take}
+use Rattle.std.specs.List.{AllByRecursion, IsDistinct}
+use Rattle.std.specs.Option.{IsSome, option_to_list}
 use Rattle.crgc_ids.specs.Actor.{Actor}
 use Rattle.crgc_ids.proofs.MembersLaws.{all-implied}
 use Rattle.edge_table.specs.Ends.{HaveSameLists, PlaceEnds, no_ends, numbers_of}
@@ -158,35 +155,9 @@ pub table-place_popped : (pairs : List (Actor × Actor)) (edges : List Edge) (pl
 table-place_popped pairs edges places fewer None table some is no_owner no_target = absurd (false≢true some)
 table-place_popped pairs edges places fewer (Some last) table some is no_owner no_target = table-place_removed pairs edges places fewer last table is no_owner no_target
 
--- a pair that has no number is not among the pairs
-pair-absent : {X : Type 0} (test : X → Bool) (xs : List X) → position test xs ≡ None → list_any test xs ≡ false
-pair-absent {X = X} test xs none =
-    let Case : Bool → Type 0 = λ b. list_any test xs ≡ b → b ≡ false in
-    let case : Case (list_any test xs) = elim (list_any test xs) as Case [
-      | true ↦ λ t. absurd (found (within xs t))
-      | false ↦ λ _. refl
-    ] in
-    case refl
-  where
-    within : (xs : List X) → list_any test xs ≡ true → position_or_len test xs < length xs
-    within [] t = absurd (false≢true t)
-    within (x ∷ xs) t =
-        let Case : Bool → Type 0 = λ b. (b || list_any test xs) ≡ true → cond (not b) (1 + position_or_len test xs) 0 < suc (length xs) in
-        let case : Case (test x) = elim (test x) as Case [ true ↦ λ _. omega arith | false ↦ λ later. (let less = within xs later in omega arith) ] in
-        case t
-
-    found : position_or_len test xs < length xs → ⊥
-    found less = none-some (position_or_len test xs) (sym none ∙ ap (λ b. cond b (Some (position_or_len test xs)) None) (lt-ltb (position_or_len test xs) (length xs) less))
-
--- so it comes last where it is added
-pub pair_added : {A E : Type 0} (owner target : Actor) (pairs more : List (Actor × Actor)) (r : Result A E) (failed : Bool) → position (same_pair (owner, target)) pairs ≡ None → failed ≡ is_err r → failed ≡ false → OnOk r (more ≡ cond (list_any (same_pair (owner, target)) pairs) pairs (pairs ++ (owner, target) ∷ [])) → more ≡ pairs ++ (owner, target) ∷ []
-pair_added owner target pairs more r failed new tells fine ok =
-    at_success _ r (λ e is. false≢true (sym fine ∙ tells ∙ ap is_err is)) ok
-    ∙ ap (λ b. cond b pairs (pairs ++ (owner, target) ∷ [])) (pair-absent (same_pair (owner, target)) pairs new)
-
--- a set from which the last key was taken has one less
-pub one_less : {X : Type 0} (pairs fewer : List (Actor × Actor)) (edges : List Edge) (places : List PlaceEnds) (last : Option X) → IsTable pairs edges places → 0 < length edges → IsSome last ↔ (0 < length pairs) → length fewer + cond (is_some last) 1 0 ≡ length pairs → length fewer + 1 ≡ length pairs
-one_less pairs fewer edges places last table some found len =
+-- a list of pairs from which the last was taken has one less
+pub one_less : (pairs fewer : List (Actor × Actor)) (edges : List Edge) (places : List PlaceEnds) → IsTable pairs edges places → 0 < length edges → fewer ≡ take (length pairs - 1) pairs → length fewer + 1 ≡ length pairs
+one_less pairs fewer edges places table some is =
     let long = table.long in
-    let has : IsSome last = found.1 (omega arith) in
-    ap (λ b. length fewer + cond b 1 0) (sym has) ∙ len
+    let first = ap length is ∙ length-take (length pairs - 1) pairs in
+    omega arith

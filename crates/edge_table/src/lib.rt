@@ -3,6 +3,7 @@
 
 mod ends;
 pub mod laws;
+mod pair_index;
 mod table;
 
 pub use table::{Edge, EdgeTable};

@@ -5,8 +5,8 @@ ghost use Rattle.edge_table.specs.Ends.{HasRoom, HaveSameLists};
 ghost use Rattle.edge_table.specs.Table.{edge_at, edges_from, edges_to, number_at, same_pair, with_edge};
 
 use crate::ends::Ends;
+use crate::pair_index::PairIndex;
 use crgc_ids::{ActorId, NoMemory};
-use indexmap::IndexSet;
 use std::alloc::Global;
 use std::marker::Model;
 
@@ -24,7 +24,7 @@ pub struct Edge {
 #[derive(Drop)]
 pub struct EdgeTable {
     alloc: Global,
-    pairs: IndexSet<(ActorId, ActorId)>,
+    pairs: PairIndex,
     edges: Vec<Edge>,
     places: Vec<Ends>,
 }
@@ -35,9 +35,9 @@ impl Model for EdgeTable {
 
     ghost Value = { Edges };
 
-    ghost view = { λ t. record { pairs = t.pairs.keys; edges = t.edges.items; places = length t.places.items } };
+    ghost view = { λ t. record { pairs = t.pairs; edges = t.edges.items; places = length t.places.items } };
 
-    ghost invariant = { λ t. IsTable t.pairs.keys t.edges.items t.places.items };
+    ghost invariant = { λ t. IsTable t.pairs t.edges.items t.places.items };
 }
 
 impl EdgeTable {
@@ -47,7 +47,7 @@ impl EdgeTable {
     {
         EdgeTable {
             alloc,
-            pairs: IndexSet::new(alloc),
+            pairs: PairIndex::new(alloc),
             edges: Vec::new(alloc),
             places: Vec::new(alloc),
         }
@@ -94,21 +94,18 @@ impl EdgeTable {
         self.places.pop();
     }
 
-    /// The number of the edge from the owner to the target; None exactly where there is none. Constant time on average.
+    /// The number of the edge from the owner to the target; None exactly where there is none. Logarithmic time.
     pub fn number_of(&self, owner: ActorId, target: ActorId) -> Option<u32>
         ensures number { result ≡ number_at self.now owner target }
         ensures within { IfSome result (λ number. number < length self.now.edges) }
         ensures distinct { IsDistinct same_pair self.now.pairs }
         ensures long { length self.now.edges ≡ length self.now.pairs }
     {
-        match self.pairs.get_index_of(&(owner, target)) {
-            Some(number) => Some(number as u32),
-            None => None,
-        }
+        self.pairs.number_of(owner, target)
     }
 
     /// There is one edge more, the last, with nothing given and released; its number is the answer. After `NoMemory`, which
-    /// comes too where there are 2^32 - 1 edges, all is as before. Constant time on average, amortized.
+    /// comes too where there are 2^32 - 1 edges, all is as before. Logarithmic time, amortized.
     pub fn add(
         &mut self,
         owner: ActorId,
@@ -134,7 +131,7 @@ impl EdgeTable {
         if reserve(&mut self.edges, &mut self.places, from, to).is_err() {
             return Err(NoMemory);
         }
-        if self.pairs.insert((owner, target)).is_err() {
+        if self.pairs.push(owner, target).is_err() {
             return Err(NoMemory);
         }
         self.edges.push_reserved(Edge {
@@ -148,7 +145,7 @@ impl EdgeTable {
         Ok(number as u32)
     }
 
-    /// The last edge is taken away. Constant time on average.
+    /// The last edge is taken away. Logarithmic time.
     pub fn remove_last_edge(&mut self)
         requires { 0 < length self.old.edges }
         ensures { let kept = length self.old.edges - 1 in self.new ≡ record self.old {

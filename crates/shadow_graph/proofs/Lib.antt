@@ -4,6 +4,7 @@ pub mod FoldLemmas
 pub mod EmptyLemmas
 pub mod SeenLemmas
 pub mod PlacedLemmas
+pub mod KnownLemmas
 pub mod OwnersLemmas
 pub mod SameLemmas
 pub mod SameFoldLemmas

@@ -84,8 +84,8 @@ impl ShadowGraph {
 
     /// The bulletin of the node, the next one of its stream, is folded: where the graph stood for a fold, it stands for the
     /// fold with it. A Final that makes nodes lost takes back what they told and puts in what others admitted from them.
-    /// After `NoMemory` all is as before. Time in proportion to n log n for n rows, on average and amortized, and linear in
-    /// what is noted of the newly lost nodes.
+    /// After `NoMemory` all is as before. On average and amortized, time in proportion to n log n for n rows, and logarithmic
+    /// in the number of edges for each row and for each pair noted of the newly lost nodes.
     pub fn fold(&mut self, origin: NodeId, b: &Bulletin) -> Result<(), NoMemory>
         requires of_origin { origin_of b.now ≡ origin }
         requires in_range { origin < self.old.finals.nodes }
@@ -190,7 +190,7 @@ impl ShadowGraph {
     }
 
     /// The references to the target that the owner was given, less those that it released; 0 where the target was dropped.
-    /// Constant time on average.
+    /// Time logarithmic in the number of edges.
     pub fn edge(&self, owner: ActorId, target: ActorId) -> i64
         ensures { let e = seen_edge self.now owner target in result ≡ pos e.given -ℤ pos e.released }
     {
@@ -231,8 +231,8 @@ impl ShadowGraph {
         edge_between(&self.edges, owner, target)
     }
 
-    /// The Delta is taken in. After `NoMemory` all is as before. Time in proportion to n log n for n rows, on average and
-    /// amortized.
+    /// The Delta is taken in. After `NoMemory` all is as before. On average and amortized, time in proportion to n log n for n
+    /// rows, and logarithmic in the number of edges for each.
     fn take_delta(&mut self, delta: &Delta) -> Result<(), NoMemory>
         requires in_range { delta.now.node < 16 }
         requires fewer { slice_index self.old.cut delta.now.node < 1000000 }
@@ -260,8 +260,8 @@ impl ShadowGraph {
         }
     }
 
-    /// The window is taken in. After `NoMemory` all is as before. Time in proportion to n log n for n rows, on average and
-    /// amortized.
+    /// The window is taken in. After `NoMemory` all is as before. On average and amortized, time in proportion to n log n for n
+    /// rows, and logarithmic in the number of edges for each.
     fn take_window(&mut self, window: &Window) -> Result<(), NoMemory>
         requires in_range { window.now.at < 16 }
         requires fewer { slice_index self.old.cut window.now.at < 1000000 }

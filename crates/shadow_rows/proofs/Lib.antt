@@ -9,3 +9,4 @@ pub mod AddedLemmas
 pub mod SettleLemmas
 pub mod LosingLemmas
 pub mod TouchLemmas
+pub mod NumberedLemmas

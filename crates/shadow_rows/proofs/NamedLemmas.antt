@@ -1,22 +1,77 @@
 -- The actors that rows name.
-use Rattle.std.proofs.Common.{◌≡◌, ◌||◌, Bool, true, false, List, [], ◌∷◌, map, refl, sym, ◌∙◌, ap, inl, inr}
+use Rattle.std.proofs.Common.{◌≡◌, ◌&&◌, ◌||◌, ◌+◌, ◌<◌, ℕ, Bool, true, false, not, List, [], ◌∷◌, ◌++◌, get_or, length, map, take, refl, sym, ◌∙◌, ap, subst, append_assoc, inl, inr}
+use Rattle.std.proofs.lemmas.List.{take_more}
+use Rattle.std.proofs.lemmas.List.Elements.{filter-append}
 use Rattle.std.proofs.lemmas.List.Sorted.{list_any-IsPermutation}
-use Rattle.std.specs.List.{AllByRecursion}
+use Rattle.std.proofs.lemmas.Map.Views.{any-filter_same}
+use Rattle.std.specs.List.{AllByRecursion, list_any}
 use Rattle.std.specs.List.Sorted.{IsPermutation}
 use Rattle.crgc_ids.specs.Actor.{Actor, same_actor}
 use Rattle.crgc_ids.specs.Members.{IsAmong}
 use Rattle.crgc_ids.specs.declared.rising.ActorCount.{ActorCount}
 use Rattle.crgc_ids.specs.declared.rising.PairCount.{PairCount}
 use Rattle.crgc_ids.proofs.MembersLaws.{IsAmong-append_left, IsAmong-append_right, all-from_members}
+use Rattle.crgc_ids.proofs.ActorLaws.{same_actor-decides}
 use Rattle.history_model.specs.declared.records.StateRow.{StateRow}
 use Rattle.history_model.specs.Ledgers.{pair_names}
 use Rattle.history_model.proofs.RisingActors.{among-decides}
 use Rattle.shadow_table.specs.Shadows.{is_named}
 use Rattle.shadow_rows.specs.Rows.{NamesRows}
-use Rattle.shadow_rows.specs.Tabled.{ArePairsNamed, row_names}
+use Rattle.shadow_rows.specs.Tabled.{ArePairsNamed, row_names, unnamed}
 
-pub names-sorted : (old new names sorted : List Actor) → IsPermutation names sorted → NamesRows old new sorted → NamesRows old new names
-names-sorted old new names sorted moved named = λ a. named a ∙ ap (λ b. is_named old a || b) (sym (list_any-IsPermutation (same_actor a) names sorted moved))
+-- where those of the actors are named that were not, all are
+pub names-sorted : (old new names sorted : List Actor) → IsPermutation (unnamed old names) sorted → NamesRows old new sorted → NamesRows old new names
+names-sorted old new names sorted moved named = λ a.
+    named a ∙ ap (λ b. is_named old a || b) (
+    sym (list_any-IsPermutation (same_actor a) (unnamed old names) sorted moved)
+    ∙ any-filter_same (same_actor a) (λ k. not (is_named old k)) (not (is_named old a)) (λ k same. ap (λ x. not (is_named old x)) (sym ((same_actor-decides a k).0 same))) names
+    ) ∙ or-not (is_named old a) (list_any (same_actor a) names)
+  where
+    or-not : (b c : Bool) → (b || (not b && c)) ≡ (b || c)
+    or-not true c = refl
+    or-not false c = refl
+
+-- the names of one row more
+pub new-more : {X : Type 0} (names : List Actor) (read : List X → List Actor) → ((xs ys : List X) → read (xs ++ ys) ≡ read xs ++ read ys)
+    → (rows : List X) (i : ℕ) (r : X) (first now next : List Actor) → i < length rows → r ≡ get_or rows i r
+    → now ≡ first ++ unnamed names (read (take i rows)) → next ≡ now ++ unnamed names (read (r ∷ []))
+    → next ≡ first ++ unnamed names (read (take (i + 1) rows))
+new-more names read parts rows i r first now next inside is before after =
+    let new = λ (a : Actor). not (is_named names a) in
+    let more : read (take (i + 1) rows) ≡ read (take i rows) ++ read (r ∷ []) =
+    ap read (take_more rows i r inside) ∙ parts (take i rows) (get_or rows i r ∷ []) ∙ ap (λ x. read (take i rows) ++ read (x ∷ [])) (sym is) in
+    after ∙ ap (λ l. l ++ unnamed names (read (r ∷ []))) before ∙ append_assoc first (unnamed names (read (take i rows))) (unnamed names (read (r ∷ [])))
+    ∙ ap (λ l. first ++ l) (sym (ap (unnamed names) more ∙ filter-append new (read (take i rows)) (read (r ∷ []))))
+
+-- one row more has such a count
+pub fits-more : {X : Type 0} (P : X → Type 0) (rows : List X) (i : ℕ) (r : X) → i < length rows → r ≡ get_or rows i r
+    → AllByRecursion P (take i rows) → P r → AllByRecursion P (take (i + 1) rows)
+fits-more P rows i r inside is all here =
+    subst (AllByRecursion P) (sym (take_more rows i r inside)) (last P (take i rows) (get_or rows i r) all (subst P is here))
+  where
+    last : {X : Type 0} (P : X → Type 0) (xs : List X) (x : X) → AllByRecursion P xs → P x → AllByRecursion P (xs ++ x ∷ [])
+    last P [] x all here = (here, tt)
+    last P (y ∷ ys) x all here = (all.0, last P ys x all.1 here)
+
+-- the names of rows of four kinds, one kind after another
+pub new-all : (names a b c d first second third all : List Actor) → first ≡ unnamed names a → second ≡ first ++ unnamed names b
+    → third ≡ second ++ unnamed names c → all ≡ third ++ unnamed names d → all ≡ unnamed names (a ++ (b ++ (c ++ d)))
+new-all names a b c d first second third all one two three four =
+    let new = λ (x : Actor). not (is_named names x) in
+    let in_turn = four ∙ ap (λ l. l ++ unnamed names d) (three ∙ ap (λ l. l ++ unnamed names c) (two ∙ ap (λ l. l ++ unnamed names b) one)) in
+    in_turn ∙ append_assoc (unnamed names a ++ unnamed names b) (unnamed names c) (unnamed names d)
+    ∙ append_assoc (unnamed names a) (unnamed names b) (unnamed names c ++ unnamed names d)
+    ∙ sym (
+    filter-append new a (b ++ (c ++ d))
+    ∙ ap (λ l. unnamed names a ++ l) (filter-append new b (c ++ d) ∙ ap (λ l. unnamed names b ++ l) (filter-append new c d))
+    )
+
+-- the names of a pair's owner and target
+pub new-two : (names : List Actor) (owner target : Actor) (first now next : List Actor) → now ≡ first ++ unnamed names (owner ∷ [])
+    → next ≡ now ++ unnamed names (target ∷ []) → next ≡ first ++ unnamed names (owner ∷ target ∷ [])
+new-two names owner target first now next one two =
+    two ∙ ap (λ l. l ++ unnamed names (target ∷ [])) one ∙ append_assoc first (unnamed names (owner ∷ [])) (unnamed names (target ∷ []))
+    ∙ ap (λ l. first ++ l) (sym (filter-append (λ (a : Actor). not (is_named names a)) (owner ∷ []) (target ∷ [])))
 
 or-true : (b : Bool) → (b || true) ≡ true
 or-true true = refl

@@ -10,8 +10,6 @@ use Rattle.history_model.specs.declared.records.StateRow.{StateRow}
 use Rattle.history_model.specs.Ledgers.{Ledger, actor_total, pair_total, received_total, row_flags, state_flags}
 use Rattle.edge_table.specs.Table.{Edges}
 use Rattle.shadow_table.specs.Shadows.{Shadows, flag_pair, shadow_at}
-use Rattle.shadow_table.specs.declared.table.Shadow.{Shadow}
-use Rattle.shadow_rows.specs.Pairs.{edge_between}
 use Rattle.shadow_rows.specs.Rows.{AddsRows, counted_shadow}
 use Rattle.shadow_rows.specs.Touched.{LeavesActor, is_touched}
 

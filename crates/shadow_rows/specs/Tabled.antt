@@ -1,12 +1,12 @@
 -- How shadows and edges stand to each other, and how both grow.
-use Rattle.std.specs.Prelude.{◌≡◌, ◌<◌, ◌≤◌, ◌++◌, ℕ, true, List, length, map, slice_index_or}
-use Rattle.std.specs.List.{AllByRecursion}
+use Rattle.std.specs.Prelude.{◌≡◌, ◌<◌, ◌≤◌, ◌++◌, ℕ, true, not, List, length, map, slice_index_or}
+use Rattle.std.specs.List.{AllByRecursion, filter, position_or_len}
 use Rattle.crgc_ids.specs.Actor.{Actor}
 use Rattle.crgc_ids.specs.declared.rising.ActorCount.{ActorCount}
 use Rattle.crgc_ids.specs.declared.rising.PairCount.{PairCount}
 use Rattle.history_model.specs.declared.records.StateRow.{StateRow}
 use Rattle.history_model.specs.Ledgers.{pair_names}
-use Rattle.edge_table.specs.Table.{Edges, edge_at}
+use Rattle.edge_table.specs.Table.{Edges, edge_at, same_pair}
 use Rattle.edge_table.specs.declared.table.Edge.{Edge}
 use Rattle.shadow_table.specs.Shadows.{is_named, place_in}
 use Rattle.shadow_rows.specs.Pairs.{edge_between, has_pair}
@@ -43,10 +43,20 @@ ArePairsNamed names rows = AllByRecursion (λ r. (is_named names r.owner ≡ tru
 abbrev pub ArePairs : List (Actor × Actor) → List PairCount → Type 0
 ArePairs pairs rows = AllByRecursion (λ r. has_pair pairs r.owner r.target ≡ true) rows
 
+-- each row's pair is there, and these are the numbers of their edges, in the order of the rows
+pub record AreNumbered (t : Edges) (rows : List PairCount) (numbers : List ℕ) : Type 0 where
+  pub there : ArePairs t.pairs rows
+  pub are : numbers ≡ map (λ r. position_or_len (same_pair (r.owner, r.target)) t.pairs) rows
+  pub within : AllByRecursion (λ n. n < length t.edges) numbers
+
 -- the actors that rows name, each as often as they do
 abbrev pub row_names : List StateRow → List ActorCount → List PairCount → List PairCount → List Actor
 row_names states sent created released =
     map (λ r. r.actor) states ++ (map (λ r. r.actor) sent ++ (pair_names created ++ pair_names released))
+
+-- those of the actors that are not named
+abbrev pub unnamed : List Actor → List Actor → List Actor
+unnamed names actors = filter (λ a. not (is_named names a)) actors
 
 -- each count of the rows is below 2^32, as its type is
 pub record AreCounts (states : List StateRow) (sent : List ActorCount) (created released : List PairCount) : Type 0 where

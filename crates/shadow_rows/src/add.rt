@@ -1,5 +1,5 @@
 //! Bulletins whose rows the shadows, the edges and the log take in.
-ghost use Rattle.std.specs.Prelude.{◌≡◌, ◌≤◌, true, Bool, Option, OnErr, OnOk};
+ghost use Rattle.std.specs.Prelude.{◌≡◌, ◌≤◌, true, Bool, Option, IfOk, OnErr, OnOk};
 ghost use Rattle.std.specs.List.{AllByRecursion};
 ghost use Rattle.crgc_ids.specs.Actor.{Actor};
 ghost use Rattle.history_model.specs.declared.records.Bulletin.TheVariants as bulletins;
@@ -10,12 +10,12 @@ ghost use Rattle.undo_log.specs.Told.{Notes, told_by};
 ghost use Rattle.undo_log.specs.declared.corrections.Side.TheVariants as sides;
 ghost use Rattle.shadow_rows.specs.Rows.{AddsLog, AddsRows, AreSmall, IsLogCovered, NamesRows};
 ghost use Rattle.shadow_rows.specs.Pairs.{KeepsEnds};
-ghost use Rattle.shadow_rows.specs.Tabled.{ArePairs, AreTabled, ExtendsEdges};
+ghost use Rattle.shadow_rows.specs.Tabled.{AreNumbered, AreTabled, ExtendsEdges};
 ghost use Rattle.shadow_rows.specs.Touched.{NamesMore};
 
 use crate::count::count_told;
 use crate::edges::release_all;
-use crate::grow::{cut_back, grow};
+use crate::grow::{RowNumbers, cut_back, grow};
 use crgc_ids::NoMemory;
 use edge_table::EdgeTable;
 use history_model::Delta;
@@ -23,21 +23,21 @@ use shadow_table::ShadowTable;
 use std::alloc::Global;
 use undo_log::UndoLog;
 
-/// The actors and pairs of the Delta are there, and the log has its sends and its created pairs. After `NoMemory` some of the
-/// actors and pairs may be there.
+/// The actors and pairs of the Delta are there, and the log has its sends and its created pairs; the answer has the numbers of
+/// the pairs' edges. After `NoMemory` some of the actors and pairs may be there.
 fn prepare_delta(
     alloc: Global,
     shadows: &mut ShadowTable,
     edges: &mut EdgeTable,
     log: &mut UndoLog,
     delta: &Delta,
-) -> Result<(), NoMemory>
+) -> Result<RowNumbers, NoMemory>
     requires tabled { AreTabled shadows.old.names edges.old }
     requires small { (owner : Option Actor) (target : Actor) → told_by log.old delta.now.node owner target ≤ 4611686018427387904 }
     ensures named { OnOk result (NamesRows shadows.old.names shadows.new.names (ledger_names (delta_ledger delta.now))) }
     ensures fits { OnOk result (CountsFit (delta_ledger delta.now)) }
-    ensures created { OnOk result (ArePairs edges.new.pairs delta.now.created) }
-    ensures released { OnOk result (ArePairs edges.new.pairs delta.now.released) }
+    ensures created { IfOk result (λ numbers. AreNumbered edges.new delta.now.created numbers.created.items) }
+    ensures released { IfOk result (λ numbers. AreNumbered edges.new delta.now.released numbers.released.items) }
     ensures tabled { OnOk result (AreTabled shadows.new.names edges.new) }
     ensures noted { OnOk result (Notes log.old log.new delta.now.node sides.Told delta.now.sent delta.now.created) }
     ensures shadows { ExtendsShadows shadows.old shadows.new }
@@ -50,13 +50,14 @@ fn prepare_delta(
     let sent = delta.sent.as_slice();
     let created = delta.created.as_slice();
     let released = delta.released.as_slice();
-    grow(alloc, shadows, edges, states, sent, created, released)?;
+    let numbers = grow(alloc, shadows, edges, states, sent, created, released)?;
     log.note_told(delta.node, &delta.sent, &delta.created)?;
-    Ok(())
+    Ok(numbers)
 }
 
 /// The rows of the Delta are counted and noted, its sends and created pairs only where they count. After `NoMemory` all that
-/// is told of actors and pairs is as before. Time in proportion to n log n for n rows, on average and amortized.
+/// is told of actors and pairs is as before. On average and amortized, time in proportion to n log n for n rows, and logarithmic
+/// in the number of edges for each.
 pub fn add_delta(
     alloc: Global,
     shadows: &mut ShadowTable,
@@ -85,8 +86,8 @@ pub fn add_delta(
     let places = shadows.place_count();
     let count = edges.edge_count();
     match prepare_delta(alloc, shadows, edges, log, delta) {
-        Ok(()) => {
-            count_delta(shadows, edges, delta, counts);
+        Ok(numbers) => {
+            count_delta(shadows, edges, delta, &numbers, counts);
             Ok(())
         }
         Err(_) => {
@@ -96,12 +97,18 @@ pub fn add_delta(
     }
 }
 
-/// The rows of the Delta are counted, its sends and created pairs only where they count.
-fn count_delta(shadows: &mut ShadowTable, edges: &mut EdgeTable, delta: &Delta, counts: bool)
+/// The rows of the Delta, whose edges have these numbers, are counted, its sends and created pairs only where they count.
+fn count_delta(
+    shadows: &mut ShadowTable,
+    edges: &mut EdgeTable,
+    delta: &Delta,
+    numbers: &RowNumbers,
+    counts: bool,
+)
     requires states { AllByRecursion (λ r. is_named shadows.old.names r.actor ≡ true) delta.now.states }
     requires sent { AllByRecursion (λ r. is_named shadows.old.names r.actor ≡ true) delta.now.sent }
-    requires created { ArePairs edges.old.pairs delta.now.created }
-    requires released { ArePairs edges.old.pairs delta.now.released }
+    requires created { AreNumbered edges.old delta.now.created numbers.now.created.items }
+    requires released { AreNumbered edges.old delta.now.released numbers.now.released.items }
     requires small { AreSmall shadows.old edges.old }
     requires fits { CountsFit (delta_ledger delta.now) }
     ensures adds { AddsRows delta.now.node counts (delta_ledger delta.now) no_rows shadows.old shadows.new edges.old edges.new }
@@ -110,6 +117,7 @@ fn count_delta(shadows: &mut ShadowTable, edges: &mut EdgeTable, delta: &Delta, 
 {
     shadows.note_states(delta.node, delta.states.as_slice());
     let (sent, created) = (delta.sent.as_slice(), delta.created.as_slice());
-    count_told(shadows, edges, sent, created, counts);
-    release_all(edges, delta.released.as_slice());
+    let (of_created, of_released) = (numbers.created.as_slice(), numbers.released.as_slice());
+    count_told(shadows, edges, sent, created, of_created, counts);
+    release_all(edges, delta.released.as_slice(), of_released);
 }

@@ -1,10 +1,11 @@
 //! Edges by the pair of their owner and their target.
 ghost use Rattle.std.specs.Prelude.{◌≡◌, ◌+◌, ◌<◌, ◌^◌, true, length};
-ghost use Rattle.std.specs.List.{AllByRecursion, position_or_len};
+ghost use Rattle.std.specs.List.{position_or_len};
 ghost use Rattle.crgc_ids.specs.Actor.{Actor};
 ghost use Rattle.history_model.specs.Ledgers.{pair_total};
 ghost use Rattle.edge_table.specs.Table.{same_pair};
 ghost use Rattle.shadow_rows.specs.Pairs.{ChangesEdge, ChangesEdges, edge_between, has_pair, with_given, with_released, without_given};
+ghost use Rattle.shadow_rows.specs.Tabled.{AreNumbered};
 
 use crgc_ids::{ActorId, PairCount};
 use edge_table::EdgeTable;
@@ -39,34 +40,47 @@ pub fn take_back(edges: &mut EdgeTable, owner: ActorId, target: ActorId, count: 
     edges.take_back(number, count.min(given));
 }
 
-/// So many more references to the target are released by the owner.
-pub fn release(edges: &mut EdgeTable, owner: ActorId, target: ActorId, count: u64)
-    requires there { has_pair edges.old.pairs owner target ≡ true }
-    requires fits { (edge_between edges.old owner target).released + count < 2 ^ 64 }
-    ensures { ChangesEdge edges.old edges.new owner target (with_released count) }
+/// The references that the row counts are given along its edge, which has this number.
+fn give_row(edges: &mut EdgeTable, number: u32, row: PairCount)
+    requires there { has_pair edges.old.pairs row.owner row.target ≡ true }
+    requires number { number ≡ position_or_len (same_pair (row.owner, row.target)) edges.old.pairs }
+    requires within { number < length edges.old.edges }
+    requires fits { (edge_between edges.old row.owner row.target).given + row.count < 2 ^ 64 }
+    ensures { ChangesEdge edges.old edges.new row.owner row.target (with_given row.count) }
 {
-    let number = number(edges, owner, target);
-    edges.release(number, count);
+    edges.give(number, u64::from(row.count));
 }
 
-/// The references that the rows count are given. Linear time in the number of rows, on average.
-pub fn give_all(edges: &mut EdgeTable, rows: &[PairCount])
-    requires there { AllByRecursion (λ r. has_pair edges.old.pairs r.owner r.target ≡ true) rows.now }
+/// The references that the row counts are released along its edge, which has this number.
+fn release_row(edges: &mut EdgeTable, number: u32, row: PairCount)
+    requires there { has_pair edges.old.pairs row.owner row.target ≡ true }
+    requires number { number ≡ position_or_len (same_pair (row.owner, row.target)) edges.old.pairs }
+    requires within { number < length edges.old.edges }
+    requires fits { (edge_between edges.old row.owner row.target).released + row.count < 2 ^ 64 }
+    ensures { ChangesEdge edges.old edges.new row.owner row.target (with_released row.count) }
+{
+    edges.release(number, u64::from(row.count));
+}
+
+/// The references that the rows count are given along their edges, which have these numbers. Linear time in the number of rows.
+pub fn give_all(edges: &mut EdgeTable, rows: &[PairCount], numbers: &[u32])
+    requires numbered { AreNumbered edges.old rows.now numbers.now }
     requires fits { (b a : Actor) → (edge_between edges.old b a).given + pair_total b a rows.now < 2 ^ 64 }
     ensures { ChangesEdges edges.old edges.new (λ b a e. with_given (pair_total b a rows.now) e) }
 {
-    for row in rows {
-        give(edges, row.owner, row.target, u64::from(row.count));
+    for i in 0..rows.len() {
+        give_row(edges, numbers[i], rows[i]);
     }
 }
 
-/// The references that the rows count are released. Linear time in the number of rows, on average.
-pub fn release_all(edges: &mut EdgeTable, rows: &[PairCount])
-    requires there { AllByRecursion (λ r. has_pair edges.old.pairs r.owner r.target ≡ true) rows.now }
+/// The references that the rows count are released along their edges, which have these numbers. Linear time in the number of
+/// rows.
+pub fn release_all(edges: &mut EdgeTable, rows: &[PairCount], numbers: &[u32])
+    requires numbered { AreNumbered edges.old rows.now numbers.now }
     requires fits { (b a : Actor) → (edge_between edges.old b a).released + pair_total b a rows.now < 2 ^ 64 }
     ensures { ChangesEdges edges.old edges.new (λ b a e. with_released (pair_total b a rows.now) e) }
 {
-    for row in rows {
-        release(edges, row.owner, row.target, u64::from(row.count));
+    for i in 0..rows.len() {
+        release_row(edges, numbers[i], rows[i]);
     }
 }

@@ -1,63 +1,75 @@
 //! Edges that are added, with nothing given and released.
-ghost use Rattle.std.specs.Prelude.{◌≡◌, ◌≤◌, ◌||◌, true, OnErr, OnOk, length, take};
-ghost use Rattle.edge_table.specs.Table.{Edges};
+ghost use Rattle.std.specs.Prelude.{◌≡◌, ◌<◌, ◌≤◌, ◌||◌, true, IfOk, OnErr, OnOk, length, take};
+ghost use Rattle.edge_table.specs.Table.{Edges, same_pair};
 ghost use Rattle.crgc_ids.specs.Actor.{Actor, same_actor};
-ghost use Rattle.std.specs.List.{list_any};
+ghost use Rattle.std.specs.List.{list_any, position_or_len};
 ghost use Rattle.shadow_table.specs.Shadows.{ExtendsShadows, first_of, is_named};
 ghost use Rattle.shadow_rows.specs.Pairs.{has_pair};
-ghost use Rattle.shadow_rows.specs.Tabled.{AreCounts, ArePairs, ArePairsNamed, AreTabled, ExtendsEdges, row_names};
+ghost use Rattle.shadow_rows.specs.Tabled.{AreCounts, AreNumbered, ArePairsNamed, AreTabled, ExtendsEdges, row_names};
 
-use crate::names::sorted_names;
+use crate::names::new_names;
 use crgc_ids::{ActorCount, ActorId, NoMemory, PairCount};
 use edge_table::EdgeTable;
 use history_model::StateRow;
 use shadow_table::ShadowTable;
 use std::alloc::Global;
 
-/// The edge between the actors is there. After `NoMemory` all is as before. Constant time on average, amortized.
+/// The numbers of the edges of a bulletin's rows, in the order of the rows.
+#[derive(Drop)]
+pub struct RowNumbers {
+    pub created: Vec<u32>,
+    pub released: Vec<u32>,
+}
+
+/// The edge between the actors is there, and this is its number. After `NoMemory` all is as before. Logarithmic time, amortized.
 fn add_pair(
     edges: &mut EdgeTable,
     shadows: &ShadowTable,
     owner: ActorId,
     target: ActorId,
-) -> Result<(), NoMemory>
+) -> Result<u32, NoMemory>
     requires tabled { AreTabled shadows.now.names edges.old }
     requires owner { is_named shadows.now.names owner ≡ true }
     requires target { is_named shadows.now.names target ≡ true }
-    ensures ok { OnOk result (has_pair edges.new.pairs owner target ≡ true) }
+    ensures there { OnOk result (has_pair edges.new.pairs owner target ≡ true) }
+    ensures number { IfOk result (λ number. number ≡ position_or_len (same_pair (owner, target)) edges.new.pairs) }
+    ensures within { IfOk result (λ number. number < length edges.new.edges) }
     ensures tabled { AreTabled shadows.now.names edges.new }
     ensures extends { ExtendsEdges edges.old edges.new }
     ensures places { edges.new.places ≡ edges.old.places }
 {
-    if edges.number_of(owner, target).is_some() {
-        return Ok(());
+    if let Some(number) = edges.number_of(owner, target) {
+        return Ok(number);
     }
     let from = shadows.place_of(owner).unwrap();
     let to = shadows.place_of(target).unwrap();
-    match edges.add(owner, target, from, to) {
-        Ok(_) => Ok(()),
-        Err(_) => Err(NoMemory),
-    }
+    edges.add(owner, target, from, to)
 }
 
-/// The edges between the actors of the rows are there. After `NoMemory` some of them may be. Linear time in the number of
-/// rows, on average.
+/// The edges between the actors of the rows are there, and these are their numbers. After `NoMemory` some of them may be. For
+/// each row time logarithmic in the number of edges.
 pub fn add_pairs(
+    alloc: Global,
     edges: &mut EdgeTable,
     shadows: &ShadowTable,
     rows: &[PairCount],
-) -> Result<(), NoMemory>
+) -> Result<Vec<u32>, NoMemory>
     requires tabled { AreTabled shadows.now.names edges.old }
     requires named { ArePairsNamed shadows.now.names rows.now }
-    ensures ok { OnOk result (ArePairs edges.new.pairs rows.now) }
+    ensures ok { IfOk result (λ numbers. AreNumbered edges.new rows.now numbers.items) }
     ensures tabled { AreTabled shadows.now.names edges.new }
     ensures extends { ExtendsEdges edges.old edges.new }
     ensures places { edges.new.places ≡ edges.old.places }
 {
-    for row in rows {
-        add_pair(edges, shadows, row.owner, row.target)?;
+    let mut numbers = Vec::new(alloc);
+    if numbers.reserve(rows.len()).is_err() {
+        return Err(NoMemory);
     }
-    Ok(())
+    for row in rows {
+        let number = add_pair(edges, shadows, row.owner, row.target)?;
+        numbers.push_reserved(number);
+    }
+    Ok(numbers)
 }
 
 /// There are at least so many places. After `NoMemory` there may be some more than before.
@@ -104,8 +116,9 @@ fn add_names(
     Ok(())
 }
 
-/// The actors that the rows name are named, rising, and the pairs of the rows are there. After `NoMemory` some of them may
-/// be. Time in proportion to n log n for n rows.
+/// The actors that the rows name are named, rising, and the pairs of the rows are there; the answer has the numbers of their
+/// edges. After `NoMemory` some of them may be there. On average, time in proportion to n log n for n rows, and logarithmic in the
+/// number of edges for each.
 pub fn grow(
     alloc: Global,
     shadows: &mut ShadowTable,
@@ -114,23 +127,23 @@ pub fn grow(
     sent: &[ActorCount],
     created: &[PairCount],
     released: &[PairCount],
-) -> Result<(), NoMemory>
+) -> Result<RowNumbers, NoMemory>
     requires tabled { AreTabled shadows.old.names edges.old }
     ensures named { OnOk result ((a : Actor) → is_named shadows.new.names a
         ≡ (is_named shadows.old.names a || list_any (same_actor a) (row_names states.now sent.now created.now released.now))) }
     ensures fits { OnOk result (AreCounts states.now sent.now created.now released.now) }
-    ensures created { OnOk result (ArePairs edges.new.pairs created.now) }
-    ensures released { OnOk result (ArePairs edges.new.pairs released.now) }
+    ensures created { IfOk result (λ numbers. AreNumbered edges.new created.now numbers.created.items) }
+    ensures released { IfOk result (λ numbers. AreNumbered edges.new released.now numbers.released.items) }
     ensures tabled { OnOk result (AreTabled shadows.new.names edges.new) }
     ensures shadows { ExtendsShadows shadows.old shadows.new }
     ensures edges { ExtendsEdges edges.old edges.new }
     ensures places { edges.old.places ≤ edges.new.places }
 {
-    let names = sorted_names(alloc, states, sent, created, released)?;
+    let names = new_names(alloc, shadows, states, sent, created, released)?;
     add_names(shadows, edges, names.as_slice())?;
-    add_pairs(edges, shadows, created)?;
-    add_pairs(edges, shadows, released)?;
-    Ok(())
+    let created = add_pairs(alloc, edges, shadows, created)?;
+    let released = add_pairs(alloc, edges, shadows, released)?;
+    Ok(RowNumbers { created, released })
 }
 
 /// Only the first so many places and edges stay.

@@ -1,72 +1,96 @@
-//! The actors that the rows of a bulletin name.
-ghost use Rattle.std.specs.Prelude.{◌≡◌, ◌++◌, ◌<◌, IfOk, OnOk, map};
+//! The actors that the rows of a bulletin name first.
+ghost use Rattle.std.specs.Prelude.{◌≡◌, ◌++◌, ◌∷◌, ◌<◌, [], IfOk, OnOk, map};
 ghost use Rattle.std.specs.List.{AllByRecursion};
 ghost use Rattle.std.specs.List.Sorted.{IsPermutation};
 ghost use Rattle.history_model.specs.Ledgers.{pair_names};
-ghost use Rattle.shadow_rows.specs.Tabled.{AreCounts, row_names};
+ghost use Rattle.shadow_rows.specs.Tabled.{AreCounts, row_names, unnamed};
 
 use crgc_ids::{ActorCount, ActorId, NoMemory, PairCount};
 use history_model::StateRow;
+use shadow_table::ShadowTable;
 use std::alloc::Global;
 
-/// The actors that the rows name, as often as they do, rising. Time in proportion to n log n for n rows.
-pub fn sorted_names(
+/// The actors that the rows name and the table does not, as often as the rows do, rising. Linear time in the number of rows, on
+/// average, and in proportion to n log n for n names of such actors.
+pub fn new_names(
     alloc: Global,
+    shadows: &ShadowTable,
     states: &[StateRow],
     sent: &[ActorCount],
     created: &[PairCount],
     released: &[PairCount],
 ) -> Result<Vec<ActorId>, NoMemory>
-    ensures names { IfOk result (λ v. IsPermutation (row_names states.now sent.now created.now released.now) v.items) }
+    ensures names { IfOk result (λ v.
+        IsPermutation (unnamed shadows.now.names (row_names states.now sent.now created.now released.now)) v.items) }
     ensures fits { OnOk result (AreCounts states.now sent.now created.now released.now) }
 {
     let mut names = Vec::new(alloc);
-    push_states(&mut names, states)?;
-    push_counts(&mut names, sent)?;
-    push_pairs(&mut names, created)?;
-    push_pairs(&mut names, released)?;
+    push_states(&mut names, shadows, states)?;
+    push_counts(&mut names, shadows, sent)?;
+    push_pairs(&mut names, shadows, created)?;
+    push_pairs(&mut names, shadows, released)?;
     names.sort_unstable();
     Ok(names)
 }
 
-/// The actors of the states come last.
-fn push_states(names: &mut Vec<ActorId>, rows: &[StateRow]) -> Result<(), NoMemory>
-    ensures names { OnOk result (names.new.items ≡ names.old.items ++ map (λ r. r.actor) rows.now) }
+/// The actors of the states that the table does not name come last.
+fn push_states(
+    names: &mut Vec<ActorId>,
+    shadows: &ShadowTable,
+    rows: &[StateRow],
+) -> Result<(), NoMemory>
+    ensures names { OnOk result (names.new.items ≡ names.old.items ++ unnamed shadows.now.names (map (λ r. r.actor) rows.now)) }
     ensures fits { OnOk result (AllByRecursion (λ r. r.received < 4294967296) rows.now) }
 {
     for row in rows {
-        if names.push(named_in_state(*row)).is_err() {
-            return Err(NoMemory);
-        }
+        push_new(names, shadows, named_in_state(*row))?;
     }
     Ok(())
 }
 
-/// The actors of the rows come last.
-fn push_counts(names: &mut Vec<ActorId>, rows: &[ActorCount]) -> Result<(), NoMemory>
-    ensures names { OnOk result (names.new.items ≡ names.old.items ++ map (λ r. r.actor) rows.now) }
+/// The actors of the rows that the table does not name come last.
+fn push_counts(
+    names: &mut Vec<ActorId>,
+    shadows: &ShadowTable,
+    rows: &[ActorCount],
+) -> Result<(), NoMemory>
+    ensures names { OnOk result (names.new.items ≡ names.old.items ++ unnamed shadows.now.names (map (λ r. r.actor) rows.now)) }
     ensures fits { OnOk result (AllByRecursion (λ r. r.count < 4294967296) rows.now) }
 {
     for row in rows {
-        if names.push(named_in_count(*row)).is_err() {
-            return Err(NoMemory);
-        }
+        push_new(names, shadows, named_in_count(*row))?;
     }
     Ok(())
 }
 
-/// The owner and the target of each row come last.
-fn push_pairs(names: &mut Vec<ActorId>, rows: &[PairCount]) -> Result<(), NoMemory>
-    ensures names { OnOk result (names.new.items ≡ names.old.items ++ pair_names rows.now) }
+/// The owner and the target of each row come last, where the table does not name them.
+fn push_pairs(
+    names: &mut Vec<ActorId>,
+    shadows: &ShadowTable,
+    rows: &[PairCount],
+) -> Result<(), NoMemory>
+    ensures names { OnOk result (names.new.items ≡ names.old.items ++ unnamed shadows.now.names (pair_names rows.now)) }
     ensures fits { OnOk result (AllByRecursion (λ r. r.count < 4294967296) rows.now) }
 {
     for row in rows {
         let (owner, target) = named_in_pair(*row);
-        if names.push(owner).is_err() || names.push(target).is_err() {
-            return Err(NoMemory);
-        }
+        push_new(names, shadows, owner)?;
+        push_new(names, shadows, target)?;
     }
     Ok(())
+}
+
+/// The actor comes last, unless the table names it. Amortized constant time, on average.
+fn push_new(names: &mut Vec<ActorId>, shadows: &ShadowTable, actor: ActorId) -> Result<(), NoMemory>
+    ensures { OnOk result (names.new.items ≡ names.old.items ++ unnamed shadows.now.names (actor ∷ [])) }
+{
+    if shadows.place_of(actor).is_some() {
+        return Ok(());
+    }
+    match names.push(actor) {
+        Ok(()) => Ok(()),
+        Err(_) => Err(NoMemory),
+    }
 }
 
 /// The actor of the row.

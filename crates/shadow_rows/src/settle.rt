@@ -52,7 +52,7 @@ fn put_in_row(shadows: &mut ShadowTable, edges: &mut EdgeTable, row: &Correction
     edges::give(edges, owner, row.target, row.admitted);
 }
 
-/// What the rows say was told is taken back. Linear time in the number of rows, on average.
+/// What the rows say was told is taken back. For each row time logarithmic in the number of edges, on average.
 fn take_back_all(shadows: &mut ShadowTable, edges: &mut EdgeTable, rows: &[Correction])
     requires { AllByRecursion (λ r. IsCovered shadows.old.names edges.old.pairs r.owner r.target) rows.now }
     ensures shadows { ChangesShadows shadows.old shadows.new (λ a s. without_told (told_total None a rows.now) s) }
@@ -63,7 +63,7 @@ fn take_back_all(shadows: &mut ShadowTable, edges: &mut EdgeTable, rows: &[Corre
     }
 }
 
-/// What the rows say was admitted is put in. Linear time in the number of rows, on average.
+/// What the rows say was admitted is put in. For each row time logarithmic in the number of edges, on average.
 fn put_in_all(shadows: &mut ShadowTable, edges: &mut EdgeTable, rows: &[Correction])
     requires covered { AllByRecursion (λ r. IsCovered shadows.old.names edges.old.pairs r.owner r.target) rows.now }
     requires admitted_fits { (a : Actor) → (shadow_at shadows.old a).admitted + admitted_total None a rows.now < 2 ^ 64 }
@@ -76,8 +76,8 @@ fn put_in_all(shadows: &mut ShadowTable, edges: &mut EdgeTable, rows: &[Correcti
     }
 }
 
-/// The node is lost: what it told is taken back, and what others admitted from it is put in. Linear time in the number of rows
-/// noted of the node, on average.
+/// The node is lost: what it told is taken back, and what others admitted from it is put in. For each row noted of the node time
+/// logarithmic in the number of edges, on average.
 fn settle_node(shadows: &mut ShadowTable, edges: &mut EdgeTable, log: &UndoLog, node: NodeId)
     requires covered { IsLogCovered shadows.old edges.old log.now }
     requires admitted_fits { (a : Actor) → (shadow_at shadows.old a).admitted + admitted_from log.now node None a < 2 ^ 64 }
@@ -91,8 +91,8 @@ fn settle_node(shadows: &mut ShadowTable, edges: &mut EdgeTable, log: &UndoLog, 
     put_in_all(shadows, edges, rows);
 }
 
-/// Each node that is lost now and was not before is settled. Linear time in the number of rows noted of these nodes, on
-/// average.
+/// Each node that is lost now and was not before is settled. For each row noted of these nodes time logarithmic in the number of
+/// edges, on average.
 pub fn settle_lost(
     shadows: &mut ShadowTable,
     edges: &mut EdgeTable,

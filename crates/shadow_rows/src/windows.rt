@@ -1,5 +1,5 @@
 //! Windows and Finals whose rows the shadows, the edges and the log take in.
-ghost use Rattle.std.specs.Prelude.{◌≡◌, ◌≤◌, if◌then◌else◌, true, Bool, Option, OnErr, OnOk};
+ghost use Rattle.std.specs.Prelude.{◌≡◌, ◌≤◌, if◌then◌else◌, true, Bool, Option, IfOk, OnErr, OnOk};
 ghost use Rattle.std.specs.List.{AllByRecursion};
 ghost use Rattle.crgc_ids.specs.Actor.{Actor};
 ghost use Rattle.history_model.specs.declared.records.Bulletin.TheVariants as bulletins;
@@ -10,11 +10,11 @@ ghost use Rattle.undo_log.specs.Told.{Notes, admitted_from};
 ghost use Rattle.undo_log.specs.declared.corrections.Side.TheVariants as sides;
 ghost use Rattle.shadow_rows.specs.Rows.{AddsLog, AddsRows, AreSmall, IsLogCovered, NamesRows};
 ghost use Rattle.shadow_rows.specs.Pairs.{KeepsEnds};
-ghost use Rattle.shadow_rows.specs.Tabled.{ArePairs, AreTabled, ExtendsEdges};
+ghost use Rattle.shadow_rows.specs.Tabled.{AreNumbered, AreTabled, ExtendsEdges};
 ghost use Rattle.shadow_rows.specs.Touched.{NamesMore};
 
 use crate::count::count_admitted;
-use crate::grow::{cut_back, grow};
+use crate::grow::{RowNumbers, cut_back, grow};
 use crgc_ids::NoMemory;
 use edge_table::EdgeTable;
 use history_model::Window;
@@ -22,20 +22,20 @@ use shadow_table::ShadowTable;
 use std::alloc::Global;
 use undo_log::UndoLog;
 
-/// The actors and pairs of the window are there, and the log has its messages and its carried pairs. After `NoMemory` some of
-/// the actors and pairs may be there.
+/// The actors and pairs of the window are there, and the log has its messages and its carried pairs; the answer has the numbers
+/// of the pairs' edges. After `NoMemory` some of the actors and pairs may be there.
 fn prepare_window(
     alloc: Global,
     shadows: &mut ShadowTable,
     edges: &mut EdgeTable,
     log: &mut UndoLog,
     window: &Window,
-) -> Result<(), NoMemory>
+) -> Result<RowNumbers, NoMemory>
     requires tabled { AreTabled shadows.old.names edges.old }
     requires small { (owner : Option Actor) (target : Actor) → admitted_from log.old window.now.from owner target ≤ 4611686018427387904 }
     ensures named { OnOk result (NamesRows shadows.old.names shadows.new.names (ledger_names (window_ledger window.now))) }
     ensures fits { OnOk result (CountsFit (window_ledger window.now)) }
-    ensures carried { OnOk result (ArePairs edges.new.pairs window.now.carried) }
+    ensures carried { IfOk result (λ numbers. AreNumbered edges.new window.now.carried numbers.created.items) }
     ensures tabled { OnOk result (AreTabled shadows.new.names edges.new) }
     ensures noted { OnOk result (Notes log.old log.new window.now.from sides.Admitted window.now.messages window.now.carried) }
     ensures shadows { ExtendsShadows shadows.old shadows.new }
@@ -46,14 +46,14 @@ fn prepare_window(
 {
     let messages = window.messages.as_slice();
     let carried = window.carried.as_slice();
-    grow(alloc, shadows, edges, &[], messages, carried, &[])?;
+    let numbers = grow(alloc, shadows, edges, &[], messages, carried, &[])?;
     log.note_admitted(window.from, &window.messages, &window.carried)?;
-    Ok(())
+    Ok(numbers)
 }
 
 /// The rows of the window are counted and noted; its messages and carried pairs count where `counts` says so, which is where
-/// the node from which they were admitted is lost. After `NoMemory` all that is told of actors and pairs is as before. Time in
-/// proportion to n log n for n rows, on average and amortized.
+/// the node from which they were admitted is lost. After `NoMemory` all that is told of actors and pairs is as before. On average
+/// and amortized, time in proportion to n log n for n rows, and logarithmic in the number of edges for each.
 pub fn add_window(
     alloc: Global,
     shadows: &mut ShadowTable,
@@ -84,8 +84,8 @@ pub fn add_window(
     let places = shadows.place_count();
     let count = edges.edge_count();
     match prepare_window(alloc, shadows, edges, log, window) {
-        Ok(()) => {
-            count_window(shadows, edges, window, counts);
+        Ok(numbers) => {
+            count_window(shadows, edges, window, numbers.created.as_slice(), counts);
             Ok(())
         }
         Err(_) => {
@@ -95,10 +95,16 @@ pub fn add_window(
     }
 }
 
-/// The rows of the window are counted where they count.
-fn count_window(shadows: &mut ShadowTable, edges: &mut EdgeTable, window: &Window, counts: bool)
+/// The rows of the window, whose edges have these numbers, are counted where they count.
+fn count_window(
+    shadows: &mut ShadowTable,
+    edges: &mut EdgeTable,
+    window: &Window,
+    numbers: &[u32],
+    counts: bool,
+)
     requires messages { AllByRecursion (λ r. is_named shadows.old.names r.actor ≡ true) window.now.messages }
-    requires carried { ArePairs edges.old.pairs window.now.carried }
+    requires carried { AreNumbered edges.old window.now.carried numbers.now }
     requires small { AreSmall shadows.old edges.old }
     requires fits { CountsFit (window_ledger window.now) }
     ensures adds { (told : Bool) → AddsRows window.now.at told no_rows (if counts then window_ledger window.now else no_rows)
@@ -107,5 +113,5 @@ fn count_window(shadows: &mut ShadowTable, edges: &mut EdgeTable, window: &Windo
     ensures ends { KeepsEnds edges.old edges.new }
 {
     let (messages, carried) = (window.messages.as_slice(), window.carried.as_slice());
-    count_admitted(shadows, edges, messages, carried, counts);
+    count_admitted(shadows, edges, messages, carried, numbers, counts);
 }

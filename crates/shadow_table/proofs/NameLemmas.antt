@@ -1,11 +1,11 @@
 -- Which actors are named, and where.
-use Rattle.std.proofs.Common.{◌≡◌, ◌+◌, ◌||◌, ℕ, Bool, true, false, cond, not, List, [], ◌∷◌, ◌++◌, refl, sym, ◌∙◌, ap}
+use Rattle.std.proofs.Common.{◌≡◌, ◌+◌, ◌||◌, Bool, true, false, cond, not, List, [], ◌∷◌, ◌++◌, refl, sym, ◌∙◌, ap}
 use Rattle.std.proofs.lemmas.Bool.{false≢true}
 use Rattle.std.proofs.lemmas.List.Folds.{list_any-append}
 use Rattle.std.specs.List.{list_any, position_or_len}
 use Rattle.crgc_ids.specs.Actor.{Actor, same_actor}
 use Rattle.crgc_ids.proofs.ActorLaws.{same_actor-decides}
-use Rattle.shadow_table.specs.Shadows.{Shadows, blank, is_named, place_in, with_name, with_names}
+use Rattle.shadow_table.specs.Shadows.{Shadows, blank, is_named, with_name, with_names}
 
 or-false : (b : Bool) → (b || false) ≡ b
 or-false true = refl

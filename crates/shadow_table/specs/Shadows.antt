@@ -1,5 +1,5 @@
 -- What contracts see of a table of shadows.
-use Rattle.std.specs.Prelude.{◌≡◌, ◌+◌, ◌-◌, ◌==◌, ◌++◌, if◌then◌else◌, ℕ, Bool, true, false, List, [], ◌∷◌, Option, Some, None, length, slice_index_or, take}
+use Rattle.std.specs.Prelude.{◌≡◌, ◌+◌, ◌-◌, ◌==◌, ◌++◌, if◌then◌else◌, ℕ, Bool, true, false, List, [], ◌∷◌, Option, Some, None, count_by, slice_index_or, take}
 use Rattle.std.specs.List.{list_any, position_or_len}
 use Rattle.std.specs.Option.{option_or}
 use Rattle.crgc_ids.specs.Actor.{Actor, same_actor}
@@ -27,6 +27,10 @@ is_named names a = list_any (same_actor a) names
 -- the place of an actor: its number in the order of naming
 abbrev pub place_in : List Actor → Actor → ℕ
 place_in names a = position_or_len (same_actor a) names
+
+-- how many of the shadows are of dropped actors
+abbrev pub dropped_count : List Shadow → ℕ
+dropped_count shadows = count_by (λ s. s.dropped) shadows
 
 -- the shadow of the actor, or the blank one where it was not named
 abbrev pub shadow_at : Shadows → Actor → Shadow

@@ -1,10 +1,10 @@
 //! Shadows by actor and by place.
-ghost use Rattle.std.specs.Prelude.{◌≡◌, ◌+◌, ◌<◌, ◌≤◌, ◌^◌, true, IsTrue, OnErr, OnOk, IfSome, length, map, slice_get, slice_index_or};
+ghost use Rattle.std.specs.Prelude.{◌≡◌, ◌+◌, ◌<◌, ◌≤◌, ◌^◌, true, IsTrue, OnErr, OnOk, IfSome, length, map, slice_get, slice_index_or, take};
 ghost use Rattle.std.specs.Option.{is_some};
 ghost use Rattle.std.specs.List.{AllByRecursion, IsDistinct};
 ghost use Rattle.crgc_ids.specs.Actor.{Actor, same_actor};
 ghost use Rattle.history_model.specs.Ledgers.{actor_total, received_total};
-ghost use Rattle.shadow_table.specs.Shadows.{ChangesShadow, ChangesShadows, ExtendsShadows, as_dropped, blank, first_of, is_named, no_shadows};
+ghost use Rattle.shadow_table.specs.Shadows.{ChangesShadow, ChangesShadows, ExtendsShadows, as_dropped, blank, dropped_count, first_of, is_named, no_shadows};
 ghost use Rattle.shadow_table.specs.Shadows.{place_in, shadow_at, with_admitted, with_name, with_names, with_state, with_states, with_told, without_told};
 
 use crgc_ids::{ActorCount, ActorId, NoMemory, NodeId};
@@ -30,20 +30,21 @@ pub struct Shadow {
 pub struct ShadowTable {
     names: IndexSet<ActorId>,
     shadows: Vec<Shadow>,
+    dropped: usize,
 }
 
 impl Model for ShadowTable {
     ghost use Rattle.std.specs.Prelude.{◌≡◌, ◌<◌, ◌^◌, length};
     ghost use Rattle.std.specs.List.{IsDistinct};
     ghost use Rattle.crgc_ids.specs.Actor.{same_actor};
-    ghost use Rattle.shadow_table.specs.Shadows.{Shadows};
+    ghost use Rattle.shadow_table.specs.Shadows.{Shadows, dropped_count};
 
     ghost Value = { Shadows };
 
     ghost view = { λ t. record { names = t.names.keys; shadows = t.shadows.items } };
 
     ghost invariant = { λ t. (length t.shadows.items ≡ length t.names.keys) × (length t.shadows.items < 2 ^ 32)
-        × IsDistinct same_actor t.names.keys };
+        × IsDistinct same_actor t.names.keys × (t.dropped ≡ dropped_count t.shadows.items) };
 }
 
 impl ShadowTable {
@@ -54,6 +55,7 @@ impl ShadowTable {
         ShadowTable {
             names: IndexSet::new(alloc),
             shadows: Vec::new(alloc),
+            dropped: 0,
         }
     }
 
@@ -64,6 +66,14 @@ impl ShadowTable {
         ensures distinct { IsDistinct same_actor self.now.names }
     {
         self.shadows.len() as u32
+    }
+
+    /// How many of the named actors were dropped. Constant time.
+    pub fn dropped_count(&self) -> usize
+        ensures value { result ≡ dropped_count self.now.shadows }
+        ensures within { result ≤ length self.now.names }
+    {
+        self.dropped
     }
 
     /// The place of the actor; None exactly where it was not named. Constant time on average.
@@ -138,6 +148,7 @@ impl ShadowTable {
         ensures { ChangesShadow self.old self.new actor as_dropped }
     {
         let place = self.place(actor);
+        self.dropped += usize::from(!self.shadows[place].dropped);
         self.shadows[place].dropped = true;
     }
 
@@ -229,8 +240,20 @@ impl ShadowTable {
     pub fn cut_back(&mut self, places: u32)
         ensures { self.new ≡ first_of places self.old }
     {
+        self.dropped -= self.dropped_from(places as usize);
         self.names.truncate(places as usize);
         self.shadows.truncate(places as usize);
+    }
+
+    /// How many actors at the place and after it were dropped. Linear time in the number of these places.
+    fn dropped_from(&self, place: usize) -> usize
+        ensures { dropped_count (take place self.now.shadows) + result ≡ dropped_count self.now.shadows }
+    {
+        let mut count = 0;
+        for later in place..self.shadows.len() {
+            count += usize::from(self.shadows[later].dropped);
+        }
+        count
     }
 }
 

@@ -50,7 +50,7 @@ returns-in-Ok-clause-covered c =
     covered-added c.args.shadows.now c.count_delta.new.shadows c.args.edges.now c.count_delta.new.edges c.args.log.now c.prepare_delta.new.log d.node sides.Told d.sent d.created grown.more more.more
     (names ∙ grown.names) (pairs ∙ more.pairs)
     (subst (λ (ns : List Actor). AllByRecursion (λ r. is_named ns r.actor ≡ true) d.sent) (sym names) sent)
-    (subst (λ (ps : List (Actor × Actor)). ArePairs ps d.created) (sym pairs) c.in-Ok.ensures.created)
+    (subst (λ (ps : List (Actor × Actor)). ArePairs ps d.created) (sym pairs) c.in-Ok.ensures.created.there)
     c.in-Ok.ensures.noted c.requires.covered
 
 pub returns-in-Ok-clause-tabled : goal.returns-in-Ok-clause-tabled

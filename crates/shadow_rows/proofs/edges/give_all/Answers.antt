@@ -7,11 +7,10 @@ use Rattle.shadow_table.proofs.RowLemmas.{total-fits}
 use Rattle.shadow_rows.proofs.PairLemmas.{same_pair-decides}
 use Rattle.shadow_rows.proofs.edges.give_all.Goals as goal
 
-pub give-requires-clause-fits : goal.give-requires-clause-fits
-give-requires-clause-fits c =
-    let row = c.row-item.result in
-    let so_far = ap (λ (e : Edge). e.given) (c.loop-row.invariant.edges row.owner row.target) in
+pub give_row-requires-clause-fits : goal.give_row-requires-clause-fits
+give_row-requires-clause-fits c =
+    let row = c.index-rows-i.result in
+    let so_far = ap (λ (e : Edge). e.given) (c.loop-i.invariant.edges row.owner row.target) in
     let whole = c.requires.fits row.owner row.target in
-    let one = c.from.ensures in
-    let part = total-fits {K = Actor × Actor} same_pair (λ (r : PairCount). (r.owner, r.target)) (λ (r : PairCount). r.count) c.args.rows.now c.loop-row.row-index row c.loop-row-test.true c.row-item.is ((same_pair-decides (row.owner, row.target) (row.owner, row.target)).1 refl) in
+    let part = total-fits {K = Actor × Actor} same_pair (λ (r : PairCount). (r.owner, r.target)) (λ (r : PairCount). r.count) c.args.rows.now c.loop-i.i row c.loop-i-test.true c.index-rows-i.is ((same_pair-decides (row.owner, row.target) (row.owner, row.target)).1 refl) in
     omega arith

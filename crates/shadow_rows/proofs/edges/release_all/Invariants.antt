@@ -3,5 +3,5 @@ use Rattle.history_model.specs.Ledgers.{pair_total}
 use Rattle.shadow_rows.specs.Pairs.{ChangesEdges, with_released}
 use Rattle.shadow_rows.proofs.edges.release_all.Given as goal
 
-abbrev pub invariant-loop-row : goal.invariant-loop-row
-invariant-loop-row l = ChangesEdges l.initial.edges l.edges (λ b a e. with_released (pair_total b a (take l.row-index l.rows)) e)
+abbrev pub invariant-loop-i : goal.invariant-loop-i
+invariant-loop-i l = ChangesEdges l.initial.edges l.edges (λ b a e. with_released (pair_total b a (take l.i l.rows)) e)

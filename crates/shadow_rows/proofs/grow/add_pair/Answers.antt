@@ -1,27 +1,35 @@
-use Rattle.std.proofs.Common.{refl, rules, subst, sym}
+use Rattle.std.proofs.Common.{◌++◌, [], ◌∷◌, Some, refl, rules}
 use Rattle.edge_table.specs.Table.{Edges}
 use Rattle.edge_table.specs.declared.table.Edge.{Edge}
-use Rattle.shadow_rows.specs.Tabled.{ExtendsEdges}
+use Rattle.shadow_rows.specs.Tabled.{AreTabled, ExtendsEdges}
 use Rattle.shadow_rows.proofs.GrowLemmas.{edge-added, edges-extend-self, pair-numbered, tabled-added}
+use Rattle.shadow_rows.proofs.NumberedLemmas.{either_way, number-added}
 use Rattle.shadow_rows.proofs.grow.add_pair.Goals as goal
 
-pub returns-then-is_some-clause-ok : goal.returns-then-is_some-clause-ok
-returns-then-is_some-clause-ok c =
-    pair-numbered c.args.edges.now.pairs c.args.owner c.args.target c.number_of.result _ c.number_of.ensures.number c.is_some.ensures c.if-is_some.true
+pub returns-in-Some-clause-there : goal.returns-in-Some-clause-there
+returns-in-Some-clause-there c =
+    pair-numbered c.args.edges.now.pairs c.args.owner c.args.target (Some c.in-Some.number) _ c.in-Some.ensures.number refl refl
 
-pub returns-then-is_some-clause-extends : goal.returns-then-is_some-clause-extends
-returns-then-is_some-clause-extends c = edges-extend-self c.args.edges.now
+pub returns-in-Some-clause-extends : goal.returns-in-Some-clause-extends
+returns-in-Some-clause-extends c = edges-extend-self c.args.edges.now
 
-pub returns-in-Ok-clause-tabled : goal.returns-in-Ok-clause-tabled
-returns-in-Ok-clause-tabled c =
+pub returns-clause-number : goal.returns-clause-number
+returns-clause-number c =
     let e : Edge = record { owner = c.unwrap-from.result; target = c.unwrap-to.result; given = 0; released = 0 } in
-    tabled-added c.args.shadows.now.names c.args.edges.now c.add.new.self c.args.owner c.args.target e c.requires.tabled c.number_of.ensures.long c.requires.owner c.requires.target (search rules) (search rules) c.in-Ok.ensures.ok
+    number-added c.add.result c.args.edges.now c.add.new.self c.args.owner c.args.target e (search rules) c.number_of.ensures.long c.add.ensures.number c.add.ensures.ok
 
-pub returns-in-Ok-clause-extends : goal.returns-in-Ok-clause-extends
-returns-in-Ok-clause-extends c =
+pub returns-clause-tabled : goal.returns-clause-tabled
+returns-clause-tabled c =
+    let t = c.args.edges.now in
+    let names = c.args.shadows.now.names in
     let e : Edge = record { owner = c.unwrap-from.result; target = c.unwrap-to.result; given = 0; released = 0 } in
-    edge-added c.args.edges.now c.add.new.self c.args.owner c.args.target e c.number_of.ensures.long refl refl c.in-Ok.ensures.ok
+    let v : Edges = record t { pairs = t.pairs ++ (c.args.owner, c.args.target) ∷ []; edges = t.edges ++ e ∷ [] } in
+    let after = tabled-added names t v c.args.owner c.args.target e c.requires.tabled c.number_of.ensures.long c.requires.owner c.requires.target (search rules) (search rules) refl in
+    either_way c.add.result t c.add.new.self v (AreTabled names) c.add.ensures.ok c.add.ensures.err c.requires.tabled after
 
-pub returns-in-Err-clause-extends : goal.returns-in-Err-clause-extends
-returns-in-Err-clause-extends c =
-    subst (λ (t : Edges). ExtendsEdges c.args.edges.now t) (sym c.in-Err.ensures.err) (edges-extend-self c.args.edges.now)
+pub returns-clause-extends : goal.returns-clause-extends
+returns-clause-extends c =
+    let t = c.args.edges.now in
+    let e : Edge = record { owner = c.unwrap-from.result; target = c.unwrap-to.result; given = 0; released = 0 } in
+    let v : Edges = record t { pairs = t.pairs ++ (c.args.owner, c.args.target) ∷ []; edges = t.edges ++ e ∷ [] } in
+    either_way c.add.result t c.add.new.self v (ExtendsEdges t) c.add.ensures.ok c.add.ensures.err (edges-extend-self t) (edge-added t v c.args.owner c.args.target e c.number_of.ensures.long refl refl refl)

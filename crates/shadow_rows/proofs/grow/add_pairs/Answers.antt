@@ -1,27 +1,43 @@
-use Rattle.std.proofs.Common.{◌≡◌, take, true, subst, refl, sym, ap, ◌∙◌, ◌++◌, ◌∷◌, []}
-use Rattle.std.proofs.ByRecursion.{All-push}
+use Rattle.std.proofs.Common.{take, subst, refl, arith, sym, ap, ◌∙◌, ◌++◌, ◌∷◌, []}
+use Rattle.std.proofs.lemmas.Bool.{false≢true}
 use Rattle.std.proofs.lemmas.List.{take_more}
+use Rattle.std.specs.Result.{is_err}
+use Rattle.crgc_ids.proofs.SuccessLaws.{at_success}
 use Rattle.crgc_ids.specs.declared.rising.PairCount.{PairCount}
-use Rattle.shadow_rows.specs.Pairs.{has_pair}
-use Rattle.shadow_rows.specs.Tabled.{ArePairs}
-use Rattle.shadow_rows.proofs.GrowLemmas.{edges-extend-more, edges-extend-self, pairs-kept}
+use Rattle.shadow_rows.specs.Tabled.{AreNumbered}
+use Rattle.shadow_rows.proofs.GrowLemmas.{edges-extend-more, edges-extend-self}
+use Rattle.shadow_rows.proofs.NumberedLemmas.{numbered-more, numbered-none, numbered-push}
 use Rattle.shadow_rows.proofs.grow.add_pairs.Goals as goal
 
+pub returns-then-is_err-clause-extends : goal.returns-then-is_err-clause-extends
+returns-then-is_err-clause-extends c = edges-extend-self c.args.edges.now
+
 pub loop-row-init : goal.loop-row-init
-loop-row-init c = record { tabled = c.requires.tabled; extends = edges-extend-self c.args.edges.now; places = refl; there = tt }
+loop-row-init c =
+    let reserved = at_success _ c.reserve.result (λ e is. false≢true (sym c.if-is_err.false ∙ c.is_err.ensures.value ∙ ap is_err is)) c.reserve.ensures.ok in
+    record {
+      tabled = c.requires.tabled;
+      extends = edges-extend-self c.args.edges.now;
+      places = refl;
+      numbered = numbered-none c.args.edges.now c.reserve.new.self.items (c.reserve.ensures.items ∙ c.new-numbers.ensures.items);
+      room = omega arith;
+    }
 
 pub loop-row-preserved : goal.loop-row-preserved
 loop-row-preserved c =
-    let rows = c.args.rows.now in
+    let rows = take c.loop-row.row-index c.args.rows.now in
     let row = c.row-item.result in
     let new = c.add_pair.new.edges in
-    let step = c.add_pair.ensures.extends in
-    let before = pairs-kept c.loop-row.edges.pairs new.pairs step.more (take c.loop-row.row-index rows) step.pairs c.loop-row.invariant.there in
-    let all = All-push (λ (r : PairCount). has_pair new.pairs r.owner r.target ≡ true) (take c.loop-row.row-index rows) row before c.in_ok-add_pair.ensures.ok in
-    let is = take_more rows c.loop-row.row-index row c.loop-row-test.true ∙ ap (λ (r : PairCount). take c.loop-row.row-index rows ++ r ∷ []) (sym c.row-item.is) in
+    let number = c.in_ok-number.number in
+    let numbers = c.loop-row.numbers.items in
+    let before = numbered-more c.loop-row.edges new rows numbers c.add_pair.ensures.extends c.loop-row.invariant.numbered in
+    let pushed = numbered-push new rows numbers row number before c.in_ok-number.ensures.there c.in_ok-number.ensures.number c.in_ok-number.ensures.within in
+    let is = take_more c.args.rows.now c.loop-row.row-index row c.loop-row-test.true ∙ ap (λ (r : PairCount). rows ++ r ∷ []) (sym c.row-item.is) in
+    let more = c.push_reserved.ensures.items in
     record {
       tabled = c.add_pair.ensures.tabled;
-      extends = edges-extend-more c.args.edges.now c.loop-row.edges new c.loop-row.invariant.extends step;
+      extends = edges-extend-more c.args.edges.now c.loop-row.edges new c.loop-row.invariant.extends c.add_pair.ensures.extends;
       places = c.add_pair.ensures.places ∙ c.loop-row.invariant.places;
-      there = subst (ArePairs new.pairs) (sym is) all;
+      numbered = subst (λ rs. AreNumbered new rs c.push_reserved.new.self.items) (sym is) (subst (AreNumbered new (rows ++ row ∷ [])) (sym more) pushed);
+      room = omega arith;
     }

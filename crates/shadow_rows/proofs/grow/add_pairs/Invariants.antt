@@ -1,5 +1,5 @@
-use Rattle.std.proofs.Common.{◌≡◌, take}
-use Rattle.shadow_rows.specs.Tabled.{ArePairs, AreTabled, ExtendsEdges}
+use Rattle.std.proofs.Common.{◌≡◌, ◌+◌, ◌≤◌, length, take, vec_capacity, vec_len}
+use Rattle.shadow_rows.specs.Tabled.{AreNumbered, AreTabled, ExtendsEdges}
 use Rattle.shadow_rows.proofs.grow.add_pairs.Given as goal
 
 abbrev pub invariant-loop-row : goal.invariant-loop-row
@@ -7,5 +7,6 @@ invariant-loop-row l = record {
   tabled : AreTabled l.shadows.names l.edges;
   extends : ExtendsEdges l.initial.edges l.edges;
   places : l.edges.places ≡ l.initial.edges.places;
-  there : ArePairs l.edges.pairs (take l.row-index l.rows);
+  numbered : AreNumbered l.edges (take l.row-index l.rows) l.numbers.items;
+  room : length l.rows + vec_len l.numbers ≤ l.row-index + vec_capacity l.numbers;
 }

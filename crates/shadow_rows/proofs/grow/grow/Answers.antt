@@ -1,8 +1,9 @@
 use Rattle.std.proofs.Common.{subst}
 use Rattle.shadow_rows.specs.Rows.{NamesRows}
 use Rattle.shadow_rows.specs.Tabled.{row_names}
-use Rattle.shadow_rows.proofs.GrowLemmas.{edges-extend-more, edges-extend-self, edges-same, pairs-kept}
+use Rattle.shadow_rows.proofs.GrowLemmas.{edges-extend-more, edges-extend-self, edges-same}
 use Rattle.shadow_rows.proofs.NamedLemmas.{created-named, names-sorted, released-named}
+use Rattle.shadow_rows.proofs.NumberedLemmas.{numbered-more}
 use Rattle.shadow_rows.proofs.grow.grow.Goals as goal
 
 pub returns-in_err-names-clause-edges : goal.returns-in_err-names-clause-edges
@@ -36,16 +37,15 @@ returns-clause-named c =
 
 pub returns-clause-created : goal.returns-clause-created
 returns-clause-created c =
-    let step = c.add_pairs-2.ensures.extends in
-    pairs-kept c.add_pairs.new.edges.pairs c.add_pairs-2.new.edges.pairs step.more c.args.created.now step.pairs c.in_ok-add_pairs.ensures.ok
+    numbered-more c.add_pairs.new.edges c.add_pairs-2.new.edges c.args.created.now c.in_ok-created.created.items c.add_pairs-2.ensures.extends c.in_ok-created.ensures.ok
 
-pub returns-in_err-add_pairs-clause-edges : goal.returns-in_err-add_pairs-clause-edges
-returns-in_err-add_pairs-clause-edges c =
+pub returns-in_err-created-clause-edges : goal.returns-in_err-created-clause-edges
+returns-in_err-created-clause-edges c =
     let first = edges-same c.args.edges.now c.add_names.new.edges c.add_names.ensures.pairs c.add_names.ensures.edges in
     edges-extend-more c.args.edges.now c.add_names.new.edges c.add_pairs.new.edges first c.add_pairs.ensures.extends
 
-pub returns-in_err-add_pairs-2-clause-edges : goal.returns-in_err-add_pairs-2-clause-edges
-returns-in_err-add_pairs-2-clause-edges c =
+pub returns-in_err-released-clause-edges : goal.returns-in_err-released-clause-edges
+returns-in_err-released-clause-edges c =
     let first = edges-same c.args.edges.now c.add_names.new.edges c.add_names.ensures.pairs c.add_names.ensures.edges in
     let then = edges-extend-more c.args.edges.now c.add_names.new.edges c.add_pairs.new.edges first c.add_pairs.ensures.extends in
     edges-extend-more c.args.edges.now c.add_pairs.new.edges c.add_pairs-2.new.edges then c.add_pairs-2.ensures.extends

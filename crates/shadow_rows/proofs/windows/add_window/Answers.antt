@@ -49,7 +49,7 @@ returns-in-Ok-clause-covered c =
     covered-added c.args.shadows.now c.count_window.new.shadows c.args.edges.now c.count_window.new.edges c.args.log.now c.prepare_window.new.log d.from sides.Admitted d.messages d.carried grown.more more.more
     (names ∙ grown.names) (pairs ∙ more.pairs)
     (subst (λ (ns : List Actor). AllByRecursion (λ r. is_named ns r.actor ≡ true) d.messages) (sym names) sent)
-    (subst (λ (ps : List (Actor × Actor)). ArePairs ps d.carried) (sym pairs) c.in-Ok.ensures.carried)
+    (subst (λ (ps : List (Actor × Actor)). ArePairs ps d.carried) (sym pairs) c.in-Ok.ensures.carried.there)
     c.in-Ok.ensures.noted c.requires.covered
 
 pub returns-in-Ok-clause-tabled : goal.returns-in-Ok-clause-tabled

@@ -6,5 +6,5 @@ use Rattle.edge_table.proofs.table.EdgeTable.remove_last_edge.Goals as goal
 pub invariant_of-self : goal.invariant_of-self
 invariant_of-self c =
     let some = subst (λ (t : Edges). 0 < length t.edges) (sym c.self.view_is) c.requires in
-    let fewer = one_less c.self.inside.pairs.keys c.pop.new.self.keys c.self.inside.edges.items c.self.inside.places.items c.pop.result c.self.invariant some c.pop.ensures.found c.pop.ensures.len in
-    table-edge_removed c.self.inside.pairs.keys c.pop.new.self.keys c.pop-2.new.self.items c.self.inside.edges.items c.self.inside.places.items c.in-Some.edge c.pop_from.new.self c.index_mut.result.now c.pop_to.new.self c.index_mut-in-Some.result.now c.self.invariant c.in-Some.ensures.items c.pop.ensures.unique fewer c.index_mut.ensures.value c.pop_from.ensures.from c.pop_from.ensures.to c.index_mut-in-Some.ensures.value c.pop_to.ensures.to c.pop_to.ensures.from
+    let fewer = one_less c.self.inside.pairs c.pop.new.self c.self.inside.edges.items c.self.inside.places.items c.self.invariant some c.pop.ensures.pairs in
+    table-edge_removed c.self.inside.pairs c.pop.new.self c.pop-2.new.self.items c.self.inside.edges.items c.self.inside.places.items c.in-Some.edge c.pop_from.new.self c.index_mut.result.now c.pop_to.new.self c.index_mut-in-Some.result.now c.self.invariant c.in-Some.ensures.items c.pop.ensures.distinct fewer c.index_mut.ensures.value c.pop_from.ensures.from c.pop_from.ensures.to c.index_mut-in-Some.ensures.value c.pop_to.ensures.to c.pop_to.ensures.from

@@ -1,4 +1,4 @@
-use Rattle.std.proofs.Common.{◌∙◌, ap, arith, refl, sym}
+use Rattle.std.proofs.Common.{◌∙◌, ap, arith, refl}
 use Rattle.crgc_ids.specs.Actor.{same_actor}
 use Rattle.crgc_ids.proofs.ActorLaws.{same_actor-decides}
 use Rattle.history_model.specs.declared.records.StateRow.{StateRow}

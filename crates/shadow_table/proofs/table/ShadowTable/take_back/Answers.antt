@@ -1,4 +1,4 @@
-use Rattle.std.proofs.Common.{refl, rules}
+use Rattle.std.proofs.Common.{rules}
 use Rattle.shadow_table.specs.Shadows.{without_told}
 use Rattle.shadow_table.proofs.ShadowLemmas.{shadow-changed}
 use Rattle.shadow_table.proofs.table.ShadowTable.take_back.Goals as goal
