@@ -1,5 +1,5 @@
 -- A collector goes with the history of its node, event by event.
-use Rattle.std.proofs.Common.{◌≡◌, ◌==◌, ◌&&◌, ◌≤◌, ◌||◌, ℕ, zero, suc, Bool, true, false, List, [], ◌∷◌, ◌++◌, length, take, refl, sym, ap, subst, ◌∙◌, arith, slice_get, Some}
+use Rattle.std.proofs.Common.{◌≡◌, ◌==◌, ◌&&◌, ◌≤◌, ◌||◌, ◌<◌, ℕ, zero, suc, Bool, true, false, List, [], ◌∷◌, ◌++◌, length, take, refl, sym, ap, subst, ◌∙◌, arith, slice_get, Some}
 use Rattle.std.proofs.lemmas.Bool.{false≢true}
 use Rattle.std.proofs.lemmas.Bool.Decides.{nat_tests}
 use Rattle.std.specs.Option.{unwrap_or}
@@ -19,7 +19,7 @@ use Rattle.shadow_graph.specs.Stands.{IsGraphOf}
 use Rattle.collector.specs.Collected.{Collected, IsCollectorAt, IsFedBy, cut_of, folded_of, has_number, was_stopped}
 use Rattle.collector.specs.Following.{is_own}
 use Rattle.collector.specs.Taking.{IsOfStreams, IsTaken, Takes}
-use Rattle.collector.proofs.NumberLemmas.{one-key, or-true}
+use Rattle.collector.proofs.NumberLemmas.{one-key, or-left, or-true}
 
 -- ---- longer streams
 
@@ -97,6 +97,16 @@ there-then false true false had has here = absurd (false≢true (has refl))
 there-then false false true had has here = absurd (false≢true (here refl))
 there-then false false false had has here = refl
 
+-- the numbers that were handed are those that it has, where it has the one that was handed last
+handed-then : (cl : Cluster) (h : List Event) (m o k : ℕ) (old new : Collected) → ((x y : ℕ) → has_number old x y ≡ true → has_number new x y ≡ true)
+    → ((x y : ℕ) → has_number new x y ≡ true → (has_number old x y || same_key (o, k) (x, y)) ≡ true) → has_number new o k ≡ true
+    → IsCollectorAt cl h m old → (x y : ℕ) → x < cl.nodes → has_number new x y ≡ was_handed m x y (Hand m o k ∷ h)
+handed-then cl h m o k old new had has there at x y inside =
+    there-then (has_number old x y) (has_number new x y) (same_key (o, k) (x, y)) (had x y) (has x y)
+    (λ same. (let one = one-key o k x y same in (λ i. has_number new (one.0 i) (one.1 i)) ∙ there))
+    ∙ (λ i. same_key (o, k) (x, y) || at.handed x y inside i)
+    ∙ sym (ap (λ t. (t && ((o == x) && (k == y))) || was_handed m x y h) (eqb-refl m))
+
 pub follows-hand : (cl : Cluster) (h : List Event) (m o k : ℕ) (bytes : List ℕ) (old new : Collected)
     → IsOfStreams (λ x. stream cl x h) o k bytes → Takes o k bytes old new → IsTaken o k new
     → IsCollectorAt cl h m old → IsCollectorAt cl (Hand m o k ∷ h) m new
@@ -105,11 +115,7 @@ follows-hand cl h m o k bytes old new given takes taken at =
     record {
       node = takes.goes_on.node ∙ at.node;
       fed = takes.fed cl (λ x. stream cl x h) (λ _. given) at.fed;
-      handed = λ x y inside. (
-          there-then (has_number old x y) (has_number new x y) (same_key (o, k) (x, y)) (takes.had x y) (takes.has x y) (at_key x y)
-          ∙ (λ i. same_key (o, k) (x, y) || at.handed x y inside i)
-          ∙ sym (ap (λ t. (t && ((o == x) && (k == y))) || was_handed m x y h) (eqb-refl m))
-          );
+      handed = handed-then cl h m o k old new takes.had takes.has taken.there at;
       settled = taken.settled;
       stops = record {
         exact = λ a here. stopped a ∙ at.stops.exact a here;
@@ -117,6 +123,14 @@ follows-hand cl h m o k bytes old new given takes taken at =
         were = λ a gone. stopped a ∙ at.stops.were a (sym (takes.goes_on.dropped a) ∙ gone);
       };
     }
-  where
-    at_key : (x y : ℕ) → same_key (o, k) (x, y) ≡ true → has_number new x y ≡ true
-    at_key x y same = (let one = one-key o k x y same in (λ i. has_number new (one.0 i) (one.1 i)) ∙ taken.there)
+
+-- one that has the bulletin stays where it is
+pub follows-again : (cl : Cluster) (h : List Event) (m o k : ℕ) (c : Collected) → has_number c o k ≡ true
+    → IsCollectorAt cl h m c → IsCollectorAt cl (Hand m o k ∷ h) m c
+follows-again cl h m o k c there at = record {
+  node = at.node;
+  fed = at.fed;
+  handed = handed-then cl h m o k c c (λ x y has. has) (λ x y has. or-left (has_number c x y) (same_key (o, k) (x, y)) has) there at;
+  settled = at.settled;
+  stops = record { exact = at.stops.exact; own = at.stops.own; were = at.stops.were };
+}

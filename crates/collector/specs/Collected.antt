@@ -1,6 +1,5 @@
 -- What contracts see of a collector, and how it stands for what it was given.
-use Rattle.std.specs.Prelude.{◌≡◌, ◌==◌, ◌<◌, ◌≤◌, ◌&&◌, ◌||◌, ℕ, Bool, false, List, [], Some, None, length, nat_lt, replicate, slice_get, take, unwrap_or}
-use Rattle.std.specs.Option.{is_some}
+use Rattle.std.specs.Prelude.{◌≡◌, ◌==◌, ◌<◌, ◌≤◌, ◌&&◌, ℕ, Bool, false, List, [], Some, None, length, replicate, slice_get, take, unwrap_or}
 use Rattle.crgc_ids.specs.Actor.{Actor}
 use Rattle.history_model.specs.declared.events.Event.{Event}
 use Rattle.history_model.specs.declared.records.Bulletin.{Bulletin}
@@ -9,7 +8,7 @@ use Rattle.history_model.specs.Compaction.{AreOwnStops}
 use Rattle.history_model.specs.Folds.{Fold, was_handed}
 use Rattle.history_model.specs.Streams.{Notice, stream}
 use Rattle.history_model.specs.Tells.{Tells}
-use Rattle.gossip_core.specs.Gossip.{Gossip, count_at, kept_at}
+use Rattle.gossip_core.specs.Gossip.{Gossip, count_at, kept_at, was_offered}
 use Rattle.shadow_table.specs.Shadows.{no_shadows}
 use Rattle.shadow_graph.specs.Graph.{Graph}
 use Rattle.shadow_graph.specs.Seen.{is_dropped}
@@ -33,7 +32,7 @@ cut_of c o = count_at c.order o
 
 -- whether bulletin k of the origin is folded or waits
 abbrev pub has_number : Collected → ℕ → ℕ → Bool
-has_number c o k = nat_lt k (cut_of c o) || is_some (kept_at c.order o k)
+has_number c o k = was_offered c.order o k
 
 -- no bulletin that waits could be folded
 abbrev pub IsSettled : Collected → Type 0

@@ -5,7 +5,7 @@ ghost use Rattle.gossip_core.specs.Gossip.{IsFirstMissing};
 ghost use Rattle.pseudoroot_trace.specs.Marked.{IsSweepBy};
 ghost use Rattle.pseudoroot_trace.specs.Traced.{is_marked_in};
 ghost use Rattle.shadow_table.specs.Shadows.{is_named};
-ghost use Rattle.collector.specs.Collected.{IsNew, IsSettled, node_count};
+ghost use Rattle.collector.specs.Collected.{IsNew, IsSettled, has_number, node_count};
 ghost use Rattle.collector.specs.Refusals.{IsFit, IsRefusal, read_as};
 ghost use Rattle.collector.specs.Sweeping.{Compacts, Finds, SetsFlags, Sweeps};
 ghost use Rattle.collector.specs.Taking.{Folds, IsAnswer, IsTaken, Keeps, LeavesAsWas, Takes};
@@ -109,6 +109,14 @@ impl Collector {
         ensures { IsFirstMissing self.now.order origin result }
     {
         self.order.wants(origin)
+    }
+
+    /// Whether the origin's bulletin of this number was taken: it is folded, or waits. Logarithmic time in the number of those
+    /// that wait.
+    pub fn has_taken(&self, origin: NodeId, number: u32) -> bool
+        ensures { result ≡ has_number self.now origin number }
+    {
+        self.order.was_offered(origin, number)
     }
 
     /// What is folded.

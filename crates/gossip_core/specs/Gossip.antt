@@ -1,6 +1,7 @@
 -- Bulletins that are put into order, each under its origin and number.
-use Rattle.std.specs.Prelude.{◌≡◌, ◌==◌, ◌&&◌, ◌+◌, ◌<◌, ◌≤◌, ℕ, Bool, false, List, Option, Some, None, IsSome, length, slice_index, slice_set, unwrap_or}
+use Rattle.std.specs.Prelude.{◌≡◌, ◌==◌, ◌&&◌, ◌||◌, ◌+◌, ◌<◌, ◌≤◌, ℕ, Bool, false, List, Option, Some, None, IsSome, length, nat_lt, slice_index, slice_set, unwrap_or}
 use Rattle.std.specs.Map.{lookup}
+use Rattle.std.specs.Option.{is_some}
 use Rattle.history_model.specs.declared.records.Bulletin.{Bulletin}
 use Rattle.gossip_core.specs.declared.gossip.Offer.{Offer}
 use Rattle.gossip_core.specs.declared.gossip.Offer.TheVariants.{Old, Ready, Waiting}
@@ -23,6 +24,10 @@ same_key j k = (j.0 == k.0) && (j.1 == k.1)
 -- the bulletin of the origin that is kept under the number
 abbrev pub kept_at : Gossip → ℕ → ℕ → Option Bulletin
 kept_at g origin number = lookup (same_key (origin, number)) g.kept
+
+-- whether the bulletin of the origin with this number was given up, or is kept
+abbrev pub was_offered : Gossip → ℕ → ℕ → Bool
+was_offered g origin number = nat_lt number (count_at g origin) || is_some (kept_at g origin number)
 
 -- what is kept has an origin below the number of nodes, and a number from its cut on and below 1,000,000
 pub record IsInOrder (g : Gossip) : Type 0 where

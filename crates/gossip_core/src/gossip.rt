@@ -1,6 +1,6 @@
 //! The bulletins that wait for those before them.
 ghost use Rattle.std.specs.Prelude.{◌≡◌, ◌+◌, ◌<◌, ◌≤◌, ℕ, [], None, IfNone, IfOk, IfSome, IsSome, OnErr, OnOk, length, replicate, slice_set};
-ghost use Rattle.gossip_core.specs.Gossip.{IsAnswer, IsFirstReady, IsFirstMissing, KeepsFirst, TakesOut, count_at, kept_at};
+ghost use Rattle.gossip_core.specs.Gossip.{IsAnswer, IsFirstReady, IsFirstMissing, KeepsFirst, TakesOut, count_at, kept_at, was_offered};
 
 use crgc_ids::{Cut, NoMemory, NodeId};
 use history_model::Bulletin;
@@ -124,6 +124,14 @@ impl GossipCore {
         ensures { result ≡ self.now.cut }
     {
         self.cut
+    }
+
+    /// Whether a bulletin of the origin was offered under this number: it is kept, or was given up. Logarithmic time in the
+    /// number of kept bulletins.
+    pub fn was_offered(&self, origin: NodeId, number: u32) -> bool
+        ensures { result ≡ was_offered self.now origin number }
+    {
+        number < self.cut.at(origin) || self.kept.contains_key(&(origin, number))
     }
 
     /// The first number of the origin from its cut on under which nothing is kept. Logarithmic time in the number of kept

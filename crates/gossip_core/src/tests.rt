@@ -58,6 +58,10 @@ fn each_origin_comes_in_order(rt: HostRuntime) -> Result<(), Fail> {
     assert_eq!(rt; (take(&mut core), core.wants(high)), (None, 0));
     assert_eq!(rt; core.offer(high, 0, delta(rt.alloc(), high))?, Offer::Ready);
     assert_eq!(rt; core.wants(high), 2);
+    assert_eq!(rt;
+        (core.was_offered(high, 1), core.was_offered(high, 2)),
+        (true, false)
+    );
     assert_eq!(rt; core.offer(low, 0, delta(rt.alloc(), low))?, Offer::Ready);
     assert_eq!(rt; take(&mut core), Some((low, low)));
     assert_eq!(rt; take(&mut core), Some((high, high)));

@@ -1,5 +1,5 @@
 -- The collectors of a cluster go with its history: at its start, as one of them changes, and as none does.
-use Rattle.std.proofs.Common.{◌≡◌, ◌≢◌, ◌<◌, ◌≤◌, ℕ, zero, suc, false, List, [], ◌∷◌, ◌++◌, Err, Ok, Result, Some, drop, get_or, get_or-set_other, get_or-set_same, length, length-set, set, refl, sym, ap, subst, ◌∙◌, inl, inr, arith}
+use Rattle.std.proofs.Common.{◌≡◌, ◌≢◌, ◌<◌, ◌≤◌, ℕ, zero, suc, true, false, List, [], ◌∷◌, ◌++◌, Err, Ok, Result, Some, drop, get_or, get_or-set_other, get_or-set_same, length, length-set, set, refl, sym, ap, subst, ◌∙◌, inl, inr, arith}
 use Rattle.std.proofs.lemmas.Bool.{cases_eq, false≢true, ltb-true, ne_eqb}
 use Rattle.std.proofs.lemmas.Option.{get_or_from_slice_get, slice_get-get_or, slice_get_within}
 use Rattle.std.specs.Prelude.{IfOk, OnOk, slice_get}
@@ -13,10 +13,10 @@ use Rattle.history_model.specs.Sweeps.{IsVerdict}
 use Rattle.history_model.proofs.Basics.{legal-kept}
 use Rattle.bulletin_streams.specs.Standing.{IsWithinLimits}
 use Rattle.bulletin_streams.proofs.BoundLemmas.{stream-short}
-use Rattle.collector.specs.Collected.{Collected, IsCollectorAt}
+use Rattle.collector.specs.Collected.{Collected, IsCollectorAt, has_number}
 use Rattle.collector.specs.Following.{is_own}
 use Rattle.collector.specs.Taking.{IsOfStreams, IsTaken, Takes}
-use Rattle.collector.proofs.FollowLemmas.{follows-hand, follows-others}
+use Rattle.collector.proofs.FollowLemmas.{follows-again, follows-hand, follows-others}
 use Rattle.collector.proofs.VerdictLemmas.{follows-compact, follows-sweep, verdict-at}
 use Rattle.node_collectors.specs.Standing.{AreCollectorsAt, SweepsOut, is_of_collector}
 
@@ -129,6 +129,25 @@ hands cl h m o k old items i was new bytes taken_bytes last legal at same place 
     let follows = follows-hand cl p m o k bytes was new before (subst (λ b. Takes o k b was new) read takes) taken here in
     subst (λ q. AreCollectorsAt cl q (set items i new)) whole
     (row-changes cl p old items i m same place at (Hand m o k) new (λ y apart. ne_eqb m y (λ e. apart (sym e))) follows)
+
+-- they stay where they are, where the collector of its node has the bulletin
+pub hands-again : (cl : Cluster) (h : List Event) (m o k : ℕ) (old items : List Collected) (i : ℕ) (was : Collected)
+    → slice_get h 0 ≡ Some (Hand m o k) → AreCollectorsAt cl (drop 1 h) old → items ≡ old → i ≡ m → was ≡ get_or items i was
+    → has_number was o k ≡ true → AreCollectorsAt cl h old
+hands-again cl h m o k old items i was last at same place is there =
+    let p = drop 1 h in
+    let event = Hand m o k in
+    subst (λ q. AreCollectorsAt cl q old) (split-last h event last) (record {
+      count = at.count;
+      each = λ y c found. elim (cases_eq y m) [
+        | inl own ↦ (
+            let one : c ≡ was = sym (get_or_from_slice_get old y c was found) ∙ (λ j. get_or old (own j) was) ∙ sym (is ∙ (λ j. get_or (same j) (place j) was)) in
+            let has : has_number c o k ≡ true = ap (λ (d : Collected). has_number d o k) one ∙ there in
+            subst (λ n. IsCollectorAt cl (event ∷ p) n c) (sym own) (follows-again cl p m o k c has (subst (λ n. IsCollectorAt cl p n c) own (at.each y c found)))
+            )
+        | inr apart ↦ follows-others cl p y c event (ne_eqb m y (λ e. apart (sym e))) (at.each y c found)
+      ];
+    })
 
 -- ---- sweeps
 

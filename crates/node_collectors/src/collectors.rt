@@ -12,7 +12,7 @@ ghost use Rattle.collector.specs.Taking.{IsOfStreams};
 ghost use Rattle.node_collectors.specs.Standing.{AreCollectorsAt, IsRead, SweepsOut};
 ghost use Rattle.node_collectors.specs.Wanted.{IsFirstUnhanded};
 
-use crate::spelling::is_spellable;
+use bulletin_spelling::is_spellable;
 use bulletin_streams::laws::bulletins_fit_the_wire;
 use collector::{Collector, TakeFault};
 use crgc_ids::{NoMemory, NodeId, Octets};
@@ -55,8 +55,9 @@ impl NodeCollectors {
     }
 
     /// A bulletin goes to the collector of a node, as the world's last event says, a hand to that node: where the collectors
-    /// stood at the history before it, they stand at the history with it. After `NoMemory` they may stand at neither. Time in
-    /// proportion to n log n for n rows of the bulletin, and to what is folded.
+    /// stood at the history before it, they stand at the history with it. After `NoMemory` they may stand at neither. Logarithmic
+    /// time in the number of bulletins that wait there, where the bulletin was handed to the node before; else time in proportion
+    /// to n log n for n rows of the bulletin, and to what is folded.
     pub fn hand(
         &mut self,
         world: &World,
@@ -69,8 +70,12 @@ impl NodeCollectors {
         ensures { OnOk result (AreCollectorsAt world.now.cluster world.now.past self.new) }
     {
         world.is_lawful();
+        let place = to.get() as usize;
+        if self.rows[place].has_taken(origin, number) {
+            return Ok(());
+        }
         let bytes = bytes_of(self.alloc, world, origin, number)?;
-        match self.rows[to.get() as usize].take(origin, number, bytes.as_slice()) {
+        match self.rows[place].take(origin, number, bytes.as_slice()) {
             Ok(_) => Ok(()),
             Err(fault) => Err(want_of(fault)),
         }
