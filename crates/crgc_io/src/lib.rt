@@ -13,7 +13,7 @@ mod traits;
 mod whole;
 
 pub use edges::{StdSink, StdSource};
-pub use gate::{Gate, QuietGate};
+pub use gate::{Gate, HoldGate, QuietGate};
 pub use memory::{MemorySink, MemorySource};
 pub use traits::{Failed, Sink, Source};
 pub use whole::{ReadAll, WriteFault, read_all, write_all};

@@ -1,10 +1,12 @@
 use crate::{
-    Failed, MemorySink, MemorySource, ReadAll, Sink, Source, StdSink, StdSource, WriteFault,
-    read_all, write_all,
+    Failed, Gate, HoldGate, MemorySink, MemorySource, ReadAll, Sink, Source, StdSink, StdSource,
+    WriteFault, read_all, write_all,
 };
+use crgc_ids::{ActorId, NodeId};
 use std::io;
 use std::io::{ErrorKind, Read, Write};
 use std::test::Fail;
+use std::thread::join;
 
 #[test]
 fn reading_takes_short_pieces_up_to_the_limit_and_tells_a_fault_from_a_long_input(
@@ -134,5 +136,28 @@ fn std_readers_and_writers_are_sources_and_sinks(rt: HostRuntime) -> Result<(), 
     );
     drop(sink);
     assert_eq!(rt; room.as_slice(), b"fou".as_slice());
+    Ok(())
+}
+
+fn actor(serial: u32) -> Option<ActorId> {
+    ActorId::new(NodeId::new(0)?, serial)
+}
+
+#[test]
+fn two_turns_meet_at_a_gate_only_where_the_first_is_held(rt: HostRuntime) -> Result<(), Fail> {
+    let (one, other) = (actor(0).ok_or("an actor")?, actor(1).ok_or("an actor")?);
+    let missed = HoldGate::new(3);
+    missed.turn_begins(0, one);
+    missed.turn_begins(1, other);
+    assert!(rt; !missed.met());
+    let held = HoldGate::new(1 << 31);
+    join(
+        &rt,
+        || held.turn_begins(0, one),
+        || held.turn_begins(1, other),
+    );
+    assert!(rt; held.met());
+    held.turn_begins(0, one);
+    assert!(rt; held.met());
     Ok(())
 }
