@@ -11,7 +11,8 @@ use Rattle.operation_model.specs.declared.replies.Reply.{Reply}
 use Rattle.operation_model.specs.declared.replies.Reply.TheVariants as replies
 use Rattle.operation_model.specs.Deeds.{deed_of}
 use Rattle.operation_model.specs.Turns.{Calls}
-use Rattle.actor_dispatch.specs.Calling.{IsQuiet, IsSame, Knows}
+use Rattle.cluster_calls.specs.Calling.{IsSame, Knows}
+use Rattle.actor_dispatch.specs.Calling.{IsQuiet}
 use Rattle.actor_dispatch.specs.Turning.{LeavesNone, Loses, left_by_deed, left_by_reply, turns_left}
 
 -- ---- lists

@@ -29,7 +29,8 @@ use Rattle.operation_model.specs.Turns.{Calls, IfOpen, IsNextAct, IsWholeTurn, f
 use Rattle.operation_model.proofs.GrantedTurns.{is_none-some, not-true}
 use Rattle.actor_dispatch.specs.declared.asking.Short.{Short}
 use Rattle.actor_dispatch.specs.declared.asking.Short.TheVariants as shorts
-use Rattle.actor_dispatch.specs.Calling.{IsAnswered, IsAsked, IsSame, Knows, short_of}
+use Rattle.cluster_calls.specs.Calling.{IsAsked, IsSame, Knows}
+use Rattle.actor_dispatch.specs.Calling.{IsAnswered, short_of}
 use Rattle.actor_dispatch.specs.Turning.{GoesOn, IsAfter, IsDue, IsInTurn, IsWhole, LeavesNone, Loses, OwesIfBorn, turns_left}
 use Rattle.actor_dispatch.proofs.Leaving.{among-filter, leaves-then, part-refl, same-then}
 use Rattle.actor_dispatch.proofs.Replies.{Answer, halted, unknown, down, granted, act-answered, rest-answered}

@@ -16,7 +16,7 @@ use Rattle.operation_model.specs.Openings.{Opening}
 use Rattle.operation_model.specs.Turns.{Calls, Open, open_turn, turn_left}
 use Rattle.actor_dispatch.specs.declared.asking.Short.{Short}
 use Rattle.actor_dispatch.specs.declared.asking.Short.TheVariants as shorts
-use Rattle.actor_dispatch.specs.Calling.{Knows}
+use Rattle.cluster_calls.specs.Calling.{Knows}
 
 -- ---- turns that are left
 

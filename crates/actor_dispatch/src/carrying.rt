@@ -1,7 +1,7 @@
 //! Messages on links.
 ghost use Rattle.std.specs.Prelude.{◌≡◌, IfErr, OnOk, Some};
 ghost use Rattle.operation_model.specs.declared.replies.Reply.TheVariants.{Halted};
-ghost use Rattle.actor_dispatch.specs.Calling.{CanAsk, IsSame, last_reply};
+ghost use Rattle.cluster_calls.specs.Calling.{CanAsk, IsSame, last_reply};
 ghost use Rattle.actor_dispatch.specs.Turning.{LeavesNone};
 
 use crate::asking::ask_quietly;

@@ -3,13 +3,14 @@ ghost use Rattle.std.specs.Prelude.{◌≡◌, ◌<◌, IfErr, OnOk, Some};
 ghost use Rattle.operation_model.specs.declared.replies.Reply.TheVariants.{Halted};
 ghost use Rattle.operation_model.specs.declared.operations.Op.TheVariants as ops;
 ghost use Rattle.actor_dispatch.specs.Begun.{BeginsTurn};
-ghost use Rattle.actor_dispatch.specs.Calling.{CanAsk, IsSame, last_reply};
+ghost use Rattle.cluster_calls.specs.Calling.{CanAsk, IsSame, last_reply};
 ghost use Rattle.actor_dispatch.specs.Turning.{LeavesNone};
 
-use crate::asking::{ask, ask_quietly};
+use crate::asking::ask_quietly;
 use crate::beginning::{Tried, came_of};
 use crate::turning::run_turn;
 use behaviour_lang::Code;
+use cluster_calls::ask;
 use crgc_ids::{ActorList, NodeSet};
 use crgc_io::Gate;
 use operation_model::{Halt, Op, Reply};

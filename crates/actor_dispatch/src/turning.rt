@@ -7,12 +7,13 @@ ghost use Rattle.operation_model.specs.declared.replies.Reply.TheVariants.{Halte
 ghost use Rattle.world_object.specs.State.{as_opening};
 ghost use Rattle.turn_lock.specs.History.{calls_of};
 ghost use Rattle.actor_dispatch.specs.Begun.{begun_of};
-ghost use Rattle.actor_dispatch.specs.Calling.{CanAsk, IsSame, last_reply};
+ghost use Rattle.cluster_calls.specs.Calling.{CanAsk, IsSame, last_reply};
 ghost use Rattle.actor_dispatch.specs.Turning.{GoesOn, IsAfter, IsDue, IsInTurn, IsWhole, LeavesNone, Loses, OwesIfBorn};
 
-use crate::asking::{Short, ask_quietly, ask_shortly, give_up};
+use crate::asking::{Short, ask_quietly, ask_shortly};
 use crate::beginning::Beginning;
 use behaviour_lang::{Act, Code, Step, Turn};
+use cluster_calls::give_up;
 use crgc_ids::{ActorId, NodeSet};
 use operation_model::{Halt, Op};
 use std::alloc::Global;

@@ -3,7 +3,7 @@ ghost use Rattle.std.specs.Prelude.{◌≡◌, IfErr, IfOk, OnOk, Some, IsTrue};
 ghost use Rattle.operation_model.specs.Openings.{IsSoundOpening};
 ghost use Rattle.operation_model.specs.declared.replies.Reply.TheVariants.{AllDone, Halted};
 ghost use Rattle.world_object.specs.State.{as_opening};
-ghost use Rattle.actor_dispatch.specs.Calling.{CanAsk, IsSame, last_reply};
+ghost use Rattle.cluster_calls.specs.Calling.{CanAsk, IsSame, last_reply};
 ghost use Rattle.actor_dispatch.specs.Turning.{LeavesNone};
 
 use crate::asking::ask_quietly;

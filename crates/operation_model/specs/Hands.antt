@@ -12,6 +12,7 @@ use Rattle.history_model.specs.Folds.{Fold}
 use Rattle.history_model.specs.Legal.{IsLegal}
 use Rattle.history_model.specs.Streams.{Notice}
 use Rattle.history_model.specs.Tells.{Tells}
+use Rattle.wire_grammar.specs.Spellable.{IsSpellable}
 use Rattle.wire_grammar.specs.Spelling.{spelled}
 use Rattle.operation_model.specs.Deeds.{Deed, claimed, handed, swept, deed_of}
 use Rattle.operation_model.specs.Turns.{Calls}
@@ -46,7 +47,7 @@ given_since n (e ∷ earlier) = given_since_by n (deed_of e.op e.reply) (given_s
 
 -- the bytes spell the origin's bulletin that tells the notice
 abbrev pub Spells : ℕ → List ℕ → Notice → Type 0
-Spells o bytes m = (b : Bulletin) × (bytes ≡ spelled b) × Tells o b m
+Spells o bytes m = (b : Bulletin) × IsSpellable b × (bytes ≡ spelled b) × Tells o b m
 
 -- the fold is what the pass was given for node n, as far as it can be folded: of each origin the longest run of numbers from 0
 pub record IsGivenFold (n : ℕ) (calls : Calls) (f : Fold) : Type 0 where

@@ -1,4 +1,4 @@
-use Rattle.actor_dispatch.specs.Calling.{IsSame}
+use Rattle.cluster_calls.specs.Calling.{IsSame}
 use Rattle.actor_dispatch.specs.Turning.{LeavesNone}
 use Rattle.actor_dispatch.proofs.carrying.carry_to.Given as goal
 

@@ -1,4 +1,4 @@
-use Rattle.actor_dispatch.specs.Calling.{IsSame}
+use Rattle.cluster_calls.specs.Calling.{IsSame}
 use Rattle.actor_dispatch.specs.Turning.{IsInTurn, LeavesNone}
 use Rattle.world_object.specs.State.{as_opening}
 use Rattle.actor_dispatch.proofs.turning.act_all.Given as goal

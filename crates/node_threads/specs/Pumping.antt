@@ -1,0 +1,85 @@
+-- What a pump has done for its node.
+use Rattle.std.specs.Prelude.{ℕ, ◌≡◌, ◌≢◌, ◌<◌, ◌⊎◌, ◌++◌, [], ◌∷◌, Bool, true, false, Option, Some, None}
+use Rattle.turn_lock.specs.History.{entry}
+use Rattle.operation_model.specs.declared.operations.Op.{Op}
+use Rattle.operation_model.specs.declared.operations.Op.TheVariants as ops
+use Rattle.operation_model.specs.declared.replies.Reply.{Reply}
+use Rattle.operation_model.specs.declared.replies.Reply.TheVariants as replies
+use Rattle.operation_model.specs.Turns.{Calls}
+use Rattle.cluster_calls.specs.Calling.{last_reply}
+
+-- one of the calls is of the operation
+abbrev pub IsMade : Op → Calls → Type 0
+IsMade op [] = ⊥
+IsMade op (e ∷ earlier) = (e.op ≡ op) ⊎ IsMade op earlier
+
+-- none of the calls asks whether nothing is left to do
+abbrev pub AsksNothing : Calls → Type 0
+AsksNothing calls = IsMade ops.Finished calls → ⊥
+
+-- among the calls is a carry of each link that leads to the node from one with a lower number than this
+abbrev pub HasCarries : ℕ → ℕ → Calls → Type 0
+HasCarries node below calls = (f : ℕ) → f < below → f ≢ node → IsMade (ops.Carry f node) calls
+
+-- among the calls is all that a pump does for its node
+pub record HasAll (node : ℕ) (calls : Calls) : Type 0 where
+  pub carries : HasCarries node 16 calls
+  pub window : IsMade (ops.Window node) calls
+  pub removal : IsMade (ops.Remove node) calls
+  pub publish : IsMade (ops.Publish node) calls
+
+-- the last call was answered that a node is down
+abbrev pub EndsDown : Calls → Type 0
+EndsDown own = (n : ℕ) × (last_reply own ≡ Some (replies.Down n))
+
+-- the last call was answered that nothing is left to do, and so was the last one of the same kind before it; between them is all
+-- that a pump does for its node
+abbrev pub EndsDone : ℕ → ℕ → Calls → Type 0
+EndsDone number node own =
+    (calls : Calls) × (earlier : Calls)
+    × (own ≡ entry number ops.Finished replies.AllDone ∷ (calls ++ entry number ops.Finished replies.AllDone ∷ earlier))
+    × AsksNothing calls × HasAll node calls
+
+-- ---- rounds
+
+-- the operation fits after every history, and it is no question
+abbrev pub IsFree : Op → Type 0
+IsFree (ops.Publish n) = Unit {0}
+IsFree (ops.Window d) = Unit {0}
+IsFree (ops.Remove d) = Unit {0}
+IsFree (ops.Carry f d) = Unit {0}
+IsFree op = ⊥
+
+-- whether the operation was done; None where its node is down
+abbrev pub done_by : Reply → Option Bool
+done_by replies.Done = Some true
+done_by (replies.Down n) = None
+done_by r = Some false
+
+-- the calls that the pass made since ask nothing, and have this
+abbrev pub Since : (Calls → Type 0) → Calls → Calls → Type 0
+Since P old new = (calls : Calls) × (new ≡ calls ++ old) × AsksNothing calls × P calls
+
+-- so it is, or the node is down
+abbrev pub SinceOrDown : (Calls → Type 0) → Calls → Calls → Option Bool → Type 0
+SinceOrDown P old new None = EndsDown new
+SinceOrDown P old new (Some any) = Since P old new
+
+abbrev pub HasPublish : ℕ → Calls → Type 0
+HasPublish node calls = IsMade (ops.Publish node) calls
+
+abbrev pub HasRemoval : ℕ → Calls → Type 0
+HasRemoval node calls = IsMade (ops.Remove node) calls × HasPublish node calls
+
+abbrev pub HasWindow : ℕ → Calls → Type 0
+HasWindow node calls = IsMade (ops.Window node) calls × HasRemoval node calls
+
+-- where nothing is left to do, the last call was answered so
+abbrev pub IsOver : ℕ → Bool → Calls → Type 0
+IsOver number true own = (earlier : Calls) × (own ≡ entry number ops.Finished replies.AllDone ∷ earlier)
+IsOver number false own = Unit {0}
+
+-- and it is the one call since
+abbrev pub EndsOver : ℕ → Bool → Calls → Calls → Type 0
+EndsOver number true old new = new ≡ entry number ops.Finished replies.AllDone ∷ old
+EndsOver number false old new = Unit {0}
