@@ -18,7 +18,7 @@ ghost use Rattle.cluster_course.specs.Halting.{IsHalt};
 use crate::halt::Halt;
 use crgc_ids::{NoMemory, NodeId};
 use evidence_report::report;
-use history_model::{Event, Verdict};
+use history_model::{Event, History, Verdict};
 use node_collectors::NodeCollectors;
 use std::alloc::Global;
 use std::marker::Model;
@@ -160,6 +160,13 @@ impl Course {
         ensures { result.now ≡ self.now }
     {
         &self.world
+    }
+
+    /// The history, without the rest. Constant time.
+    pub fn into_history(self) -> History
+        ensures { result ≡ self }
+    {
+        self.world.into_history()
     }
 
     /// The first number, from 0 on, under which no bulletin of the origin was handed to the node. `NoMemory` comes only where

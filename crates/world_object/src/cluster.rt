@@ -8,7 +8,7 @@ ghost use Rattle.world_object.specs.State.{as_opening};
 
 use crate::parts::ClusterParts;
 use crgc_ids::NoMemory;
-use operation_model::{Op, Reply};
+use operation_model::{Halt, Op, Reply};
 use script_reader::Script;
 use std::alloc::Global;
 use std::marker::Model;
@@ -58,6 +58,13 @@ impl Cluster {
         ensures cluster { result.now.cluster ≡ cluster_of self.now.script }
     {
         &self.parts.world
+    }
+
+    /// Why it has halted, if it has. Constant time.
+    pub fn halt(&self) -> Option<Halt>
+        ensures { result ≡ self.now.halt }
+    {
+        self.parts.halt
     }
 
     /// The world, without the rest. Constant time.

@@ -1,0 +1,4 @@
+pub mod Ends
+pub mod Within
+pub mod Closes
+pub mod Crossing

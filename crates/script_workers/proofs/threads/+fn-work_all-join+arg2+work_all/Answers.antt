@@ -1,0 +1,26 @@
+use mathlib.Core.List.{[], ◌∷◌}
+use denote.RattleType.{RattleType}
+use denote.Ref.{ShrRef}
+use denote.Param.{param}
+use denote.Struct.Field.{u32-field}
+use denote.Param.Send.{IsSend, IsSync, sendable, shr_send}
+use Rattle.std.proofs.Crossing.{crosses, send}
+use Rattle.std.specs.contracts.alloc.Global as Heap
+use Rattle.behaviour_lang.specs.contracts.code.Code as Code
+use Rattle.turn_lock.proofs.Crossing.{captures_send}
+use Rattle.script_workers.proofs.Crossing.{lock, moved, pass, shared}
+use Rattle.script_workers.proofs.threads.+fn-work_all-join+arg2+work_all.Goals as goal
+
+code_sync : IsSync Code.the_row
+code_sync = search (crosses, sendable) depth 60 fits 100000
+
+u32_send : IsSend u32-field.row
+u32_send = search sendable depth 20
+
+pub join-first-requires-send-F : goal.join-first-requires-send-F
+join-first-requires-send-F g t c κs h =
+    captures_send 1 _ _ (ShrRef _ _ (param 1 g.row.R) ∷ Heap.the_row ∷ ShrRef _ _ lock ∷ pass ∷ ShrRef _ _ Code.the_row ∷ ShrRef _ _ (param 0 g.row.G) ∷ u32-field.row ∷ [])
+    (shr_send _ _ _ c.requires.shared.0, (send, (shr_send _ _ _ shared, (moved, (shr_send _ _ _ code_sync, (shr_send _ _ _ c.requires.shared.1, (u32_send, tt)))))))
+
+pub join-first-requires-send-A : goal.join-first-requires-send-A
+join-first-requires-send-A g t c κs h = search (sendable, moved) depth 40

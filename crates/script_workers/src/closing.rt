@@ -1,0 +1,96 @@
+//! The round that closes a run.
+ghost use Rattle.std.specs.Prelude.{◌≡◌, IfErr, IfOk, None, OnOk};
+ghost use Rattle.history_model.specs.Legal.{IsLegal, refusal};
+ghost use Rattle.journal_model.specs.Limits.{limit_passed};
+ghost use Rattle.run_model.specs.Schedule.{IsWithinLimits};
+ghost use Rattle.true_config.specs.Applying.{CarriesFew};
+ghost use Rattle.true_config.specs.Steps.{Adds};
+ghost use Rattle.script_workers.specs.Closed.{CarryFew, IsClosed, IsHalfClosed};
+
+use crate::fault::WorkersFault;
+use crate::runs::Finished;
+use cluster_course::{Course, Halt};
+use cluster_round::{RoundHalt, round};
+use crgc_ids::NoMemory;
+use history_model::{Event, History};
+use std::alloc::Global;
+use true_config::World;
+
+/// The report of the world's history, in brief or in full, after one more round; or why there is none. Fresh collectors take what
+/// the history hands to them, and then the round.
+pub(crate) fn close_run(alloc: Global, world: World, brief: bool) -> Result<Finished, WorkersFault>
+    requires { IsWithinLimits world.cluster world.past }
+    ensures report { IfOk result (IsClosed world brief) }
+    ensures fault { IfErr result (IsHalfClosed world) }
+{
+    world.is_lawful();
+    match course_of(alloc, world.into_history()) {
+        Ok(course) => close(alloc, course, brief),
+        Err(NoMemory) => Err(WorkersFault::NoMemory),
+    }
+}
+
+/// The report of the history of the course, in brief or in full, after one more round; or why there is none.
+fn close(alloc: Global, mut course: Course, brief: bool) -> Result<Finished, WorkersFault>
+    ensures report { IfOk result (IsClosed course brief) }
+    ensures fault { IfErr result (IsHalfClosed course) }
+{
+    match round(&mut course) {
+        Ok(()) => {}
+        Err(RoundHalt::Limit(which)) => {
+            let history = course.into_history();
+            return Err(WorkersFault::Limit { which, history });
+        }
+        Err(RoundHalt::NoMemory) => return Err(WorkersFault::NoMemory),
+    }
+    match course.report(alloc, brief) {
+        Ok(report) => {
+            let history = course.into_history();
+            Ok(Finished { report, history })
+        }
+        Err(NoMemory) => Err(WorkersFault::NoMemory),
+    }
+}
+
+/// The course of a history, with collectors that took all that was handed to them. In the time that the course takes for its events.
+fn course_of(alloc: Global, history: History) -> Result<Course, NoMemory>
+    requires legal { IsLegal history.cluster history.past }
+    requires within { IsWithinLimits history.cluster history.past }
+    requires few { CarryFew history.past }
+    ensures { IfOk result (λ c. c ≡ history) }
+{
+    let mut course = Course::begin(alloc, history.nodes(), history.version())?;
+    let mut events = newest_first(alloc, history)?;
+    while let Some(event) = events.pop() {
+        follow_next(&mut course, event)?;
+    }
+    Ok(course)
+}
+
+/// The event happens, which neither a rule nor a limit hinders.
+fn follow_next(course: &mut Course, event: Event) -> Result<(), NoMemory>
+    requires legal { refusal course.old.cluster event course.old.past ≡ None }
+    requires limit { limit_passed course.old.cluster event course.old.past ≡ None }
+    requires few { CarriesFew event }
+    ensures ok { OnOk result (Adds event course.old course.new) }
+{
+    match course.follow(event) {
+        Ok(_) => Ok(()),
+        Err(Halt::Rule(_)) => unreachable!(),
+        Err(Halt::Limit(_)) => unreachable!(),
+        Err(Halt::NoMemory) => Err(NoMemory),
+    }
+}
+
+/// The events of a history, the newest first.
+fn newest_first(alloc: Global, mut history: History) -> Result<Vec<Event>, NoMemory>
+    ensures { IfOk result (λ events. events.items ≡ history.past) }
+{
+    let mut events = Vec::new(alloc);
+    while let Some(event) = history.take_back() {
+        if events.push(event).is_err() {
+            return Err(NoMemory);
+        }
+    }
+    Ok(events)
+}

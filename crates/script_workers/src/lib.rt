@@ -1,0 +1,13 @@
+//! Scripts run by workers in threads of their own, to the report of the one history that they make.
+#![tactic(auto)]
+
+mod closing;
+mod fault;
+mod runs;
+mod threads;
+
+pub use fault::WorkersFault;
+pub use runs::{Finished, run};
+
+#[cfg(test)]
+mod tests;
