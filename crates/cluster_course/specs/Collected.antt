@@ -14,7 +14,8 @@ use Rattle.history_model.specs.Uses.{IsUnused}
 -- stopped then is quiescent, then and in every longer legal history q ++ p, and nobody uses it any more; and where p is a
 -- quiet point of m and m sweeps, no quiescent actor of m is left unstopped
 pub record IsRightlyCollected (cl : Cluster) (h : List Event) : Type 0 where
-  pub sweeps_are_right : (later p : List Event) (m : ℕ) → h ≡ later ++ Sweep m ∷ p → (a : Actor) → IsAmong a (stopped_by cl m p) → IsQuiescent cl p a
+  pub sweeps_are_right : (later p : List Event) (m : ℕ) → h ≡ later ++ Sweep m ∷ p
+      → (a : Actor) → IsAmong a (stopped_by cl m p) → IsQuiescent cl p a
   pub stops_are_right : (later p : List Event) → h ≡ later ++ p → (a : Actor) → IsTrue (is_stopped cl a p)
       → (q : List Event) → IsLegal cl (q ++ p) → IsQuiescent cl (q ++ p) a
   pub stopped_are_unused : (later p : List Event) → h ≡ later ++ p → (a : Actor) → IsTrue (is_stopped cl a p) → IsUnused cl p a

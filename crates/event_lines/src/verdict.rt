@@ -38,7 +38,8 @@ fn write_verdict(nodes: u8, verdict: &Verdict, out: &mut Vec<u8>) -> Result<(), 
 
 fn write_cut(nodes: u8, verdict: &Verdict, out: &mut Vec<u8>) -> Result<(), NoMemory>
     requires nodes { nodes ≤ 16 }
-    ensures ok { OnOk result (out.new.items ≡ out.old.items ++ (spell (cut_words verdict.now.node (take nodes verdict.now.cut) verdict.now.lost) ++ 10 ∷ [])) }
+    ensures ok { OnOk result (out.new.items
+        ≡ out.old.items ++ (spell (cut_words verdict.now.node (take nodes verdict.now.cut) verdict.now.lost) ++ 10 ∷ [])) }
     ensures err { OnErr result (BeginsWith out.old.items out.new.items) }
 {
     write(out, b"cut")?;

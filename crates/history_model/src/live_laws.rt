@@ -13,7 +13,8 @@ ghost use Rattle.history_model.specs.Quiescent.{IsDelivered, IsLive, LosesNothin
 /// messages that go there.
 pub fn what_is_live_is_counted()
     ensures messages { (cl : Cluster) (h : List Event) → IsLegal cl h → (live_count cl h ≡ 0) ↔ NothingIsLive h }
-    ensures node { (cl : Cluster) (h : List Event) (n : ℕ) → IsLegal cl h → (live_at cl n h ≡ 0) ↔ ((m : Message) → m.to.node ≡ n → ¬ IsLive h m) }
+    ensures node { (cl : Cluster) (h : List Event) (n : ℕ) → IsLegal cl h
+        → (live_at cl n h ≡ 0) ↔ ((m : Message) → m.to.node ≡ n → ¬ IsLive h m) }
     ensures busy { (cl : Cluster) (h : List Event) → IsLegal cl h → (busy_count cl h ≡ 0) ↔ NobodyIsBusy h }
 {}
 

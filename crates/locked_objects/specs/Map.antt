@@ -63,7 +63,8 @@ has_put_later pass key (e ∷ later) history none = by_test (eqb e.pass pass) no
     by_test true n rest = absurd (cc)
     by_test false n rest = rest n
 
-pub still_may_make : (later history : Log) (op : MapOp) (pass : ℕ) → calls_of pass later ≡ [] → MayMake history op pass → MayMake (later ++ history) op pass
+pub still_may_make : (later history : Log) (op : MapOp) (pass : ℕ) → calls_of pass later ≡ []
+    → MayMake history op pass → MayMake (later ++ history) op pass
 still_may_make later history (Put k v) pass none may = tt
 still_may_make later history (Get k) pass none may = tt
 still_may_make later history (TakeBack k) pass none may = has_put_later pass k later history none ∙ may

@@ -27,8 +27,8 @@ lost_so_far before after n k = has_node before k || (nat_lt k n && has_node afte
 -- cluster and the first ones are among them
 abbrev pub LosesNodes : List (List Correction) → List ℕ → List ℕ → Shadows → Shadows → Edges → Edges → Type 0
 LosesNodes log before after s t e f =
-    (cl : Cluster) (fold : Fold) → cl.nodes ≤ 16 → IsPart before after → ((k : ℕ) → has_node after k ≡ true → k < cl.nodes) → LogsFold cl fold log
-    → CountsFold cl (has_node before) fold s e → CountsFold cl (has_node after) fold t f
+    (cl : Cluster) (fold : Fold) → cl.nodes ≤ 16 → IsPart before after → ((k : ℕ) → has_node after k ≡ true → k < cl.nodes)
+    → LogsFold cl fold log → CountsFold cl (has_node before) fold s e → CountsFold cl (has_node after) fold t f
 
 -- what so many corrections, each of less than 2^56, can change
 pub record Corrects (gain : ℕ) (s t : Shadows) (e f : Edges) : Type 0 where

@@ -81,5 +81,6 @@ module _ {S P R : Type 0} (fits : S → List (Entry P R) → P → ℕ → Type 
     pub tickets : Apart (λ v. v.waits) (λ v. v.ticket) s.views
     pub queued : (j : ℕ) (v : View S P R) → get_elem? s.views j ≡ some v → Queued log next v
     pub alive : (j : ℕ) (v : View S P R) → get_elem? s.views j ≡ some v → v.live ≡ 1 → Alive key log given gathered v
-    pub leads : (j : ℕ) (v : View S P R) → get_elem? s.views j ≡ some v → v.live ≡ 1 → v.number ≡ 0 → Leads log given drawn joined gathered s.views v
+    pub leads : (j : ℕ) (v : View S P R) → get_elem? s.views j ≡ some v → v.live ≡ 1 → v.number ≡ 0
+        → Leads log given drawn joined gathered s.views v
     pub slot : IsHome key log s.homes ⊎ IsAway s.views
