@@ -14,6 +14,7 @@ use Rattle.operation_model.specs.Turns.{Calls}
 use Rattle.cluster_calls.specs.Calling.{IsSame, Knows}
 use Rattle.actor_dispatch.specs.Calling.{IsQuiet}
 use Rattle.actor_dispatch.specs.Turning.{LeavesNone, Loses, left_by_deed, left_by_reply, turns_left}
+use Rattle.cluster_calls.proofs.Same.{same-then}
 
 -- ---- lists
 
@@ -121,9 +122,6 @@ on_ok-then (Ok x) holds then_ = then_ holds
 on_ok-then (Err e) holds then_ = tt
 
 -- ---- passes
-
-pub same-then : (first p q : Knows) → IsSame first p → IsSame p q → IsSame first q
-same-then first p q before same = same ∙ ap (λ (x : Knows). record x { seen = q.seen; own = q.own }) before
 
 -- what calls keep that leave no turn, one after another
 pub both-then : (first p q : Knows) → IsSame first p × LeavesNone first.own p.own → IsSame p q → LeavesNone p.own q.own → IsSame first q × LeavesNone first.own q.own

@@ -32,7 +32,8 @@ use Rattle.actor_dispatch.specs.declared.asking.Short.TheVariants as shorts
 use Rattle.cluster_calls.specs.Calling.{IsAsked, IsSame, Knows}
 use Rattle.actor_dispatch.specs.Calling.{IsAnswered, short_of}
 use Rattle.actor_dispatch.specs.Turning.{GoesOn, IsAfter, IsDue, IsInTurn, IsWhole, LeavesNone, Loses, OwesIfBorn, turns_left}
-use Rattle.actor_dispatch.proofs.Leaving.{among-filter, leaves-then, part-refl, same-then}
+use Rattle.actor_dispatch.proofs.Leaving.{among-filter, leaves-then, part-refl}
+use Rattle.cluster_calls.proofs.Same.{same-then}
 use Rattle.actor_dispatch.proofs.Replies.{Answer, halted, unknown, down, granted, act-answered, rest-answered}
 
 -- ---- steps

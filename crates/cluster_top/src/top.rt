@@ -53,7 +53,7 @@ pub fn plain_top<S: Source, K: Sink>(
     }
 }
 
-/// Whether the words ask for worker threads. None do yet.
+/// Whether what the words ask for is done with worker threads. Nothing is yet.
 pub fn wants_workers(_words: &[String]) -> bool
     ensures { result ≡ false }
 {

@@ -44,6 +44,7 @@ use Rattle.collector.proofs.NumberLemmas.{from-of, is-from}
 use Rattle.collector.proofs.VerdictLemmas.{actors-of}
 use Rattle.collected_calls.specs.Collecting.{HasCollected, HaveGiven, IsCollectorOf, is_collecting}
 use Rattle.collected_calls.proofs.Following.{given-other, stops-hold, stops-other}
+use Rattle.operation_model.proofs.Verdicts.{slice_get-taken}
 
 -- ---- the calls of a pass fitted
 
@@ -112,12 +113,6 @@ kind o own (ops.Refill skip) r fits = neither refl
 kind o own ops.Finished r fits = neither (over-neither r)
 
 -- ---- what was given before
-
-slice_get-taken : {A : Type 0} (c : ℕ) (xs : List A) (k : ℕ) (x : A) → slice_get (take c xs) k ≡ Some x → slice_get xs k ≡ Some x
-slice_get-taken zero xs k x is = absurd (none-some x is)
-slice_get-taken (suc c) [] k x is = absurd (none-some x is)
-slice_get-taken (suc c) (y ∷ ys) zero x is = is
-slice_get-taken (suc c) (y ∷ ys) (suc k) x is = slice_get-taken c ys k x is
 
 -- all of the fold but what origin o has from number k on
 abbrev without : ℕ → ℕ → Fold → Fold

@@ -9,7 +9,6 @@ use Rattle.operation_model.specs.declared.operations.Op.TheVariants as ops
 use Rattle.operation_model.specs.declared.replies.Reply.{Reply}
 use Rattle.operation_model.specs.declared.replies.Reply.TheVariants as replies
 use Rattle.operation_model.specs.Turns.{Calls}
-use Rattle.cluster_calls.specs.Calling.{IsSame, Knows}
 use Rattle.node_threads.specs.Pumping.{AsksNothing, HasAll, HasCarries, HasPublish, HasRemoval, HasWindow, IsFree, IsMade, Since, SinceOrDown, done_by}
 
 -- ---- one of the calls
@@ -46,9 +45,6 @@ one-asks op number r free (inr is) = is
 
 -- ---- calls since
 
-pub same-then : (old mid new : Knows) → IsSame old mid → IsSame mid new → IsSame old new
-same-then old mid new first later = later ∙ ap (λ (p : Knows). record p { seen = new.seen; own = new.own }) first
-
 module _ (P Q R : Calls → Type 0) (both : (first later : Calls) → P first → Q later → R (later ++ first)) where
   pub since-then : (old mid new : Calls) → Since P old mid → Since Q mid new → Since R old new
   since-then old mid new (first, one, none, p) (later, other, none', q) =
@@ -80,10 +76,6 @@ since-reply op number (replies.Ids ids) old new free own = since-one op number (
 since-reply op number (replies.NotYet busy live planned) old new free own = since-one op number (replies.NotYet busy live planned) old new free own
 since-reply op number replies.AllDone old new free own = since-one op number replies.AllDone old new free own
 since-reply op number (replies.Halted halt) old new free own = since-one op number (replies.Halted halt) old new free own
-
--- nothing was called
-pub since-none : (P : Calls → Type 0) (old : Calls) → P [] → Since P old old
-since-none P old p = ([], refl, (λ is. is), p)
 
 -- ---- what a round has
 

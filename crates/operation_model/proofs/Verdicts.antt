@@ -48,7 +48,7 @@ run-is test (suc n) =
         ] refl fails
 
 -- what stands in the beginning of a list stands in the list
-slice_get-taken : {A : Type 0} (c : ℕ) (xs : List A) (k : ℕ) (x : A) → slice_get (take c xs) k ≡ Some x → slice_get xs k ≡ Some x
+pub slice_get-taken : {A : Type 0} (c : ℕ) (xs : List A) (k : ℕ) (x : A) → slice_get (take c xs) k ≡ Some x → slice_get xs k ≡ Some x
 slice_get-taken zero xs k x is = absurd (none-some x is)
 slice_get-taken (suc c) [] k x is = absurd (none-some x is)
 slice_get-taken (suc c) (y ∷ ys) zero x is = is

@@ -24,16 +24,16 @@ use Rattle.run_model.proofs.TurnsDone.{act_events}
 -- ---- longer histories
 
 -- h is p with later events
-abbrev IsLonger : List Event → List Event → Type 0
+abbrev pub IsLonger : List Event → List Event → Type 0
 IsLonger p h = (q : List Event) × (h ≡ q ++ p)
 
 longer-more : (p h : List Event) (e : Event) → IsLonger (e ∷ p) h → IsLonger p h
 longer-more p h e longer = (longer.0 ++ e ∷ [], longer.1 ∙ sym (append_assoc longer.0 (e ∷ []) p))
 
-longer-again : (p h g : List Event) → IsLonger p h → IsLonger h g → IsLonger p g
+pub longer-again : (p h g : List Event) → IsLonger p h → IsLonger h g → IsLonger p g
 longer-again p h g first second = (second.0 ++ first.0, second.1 ∙ ap (λ x. second.0 ++ x) first.1 ∙ sym (append_assoc second.0 first.0 p))
 
-onto-longer : (h es : List Event) → IsLonger h (onto h es)
+pub onto-longer : (h es : List Event) → IsLonger h (onto h es)
 onto-longer h [] = ([], refl)
 onto-longer h (e ∷ es) = longer-more h (onto (e ∷ h) es) e (onto-longer (e ∷ h) es)
 

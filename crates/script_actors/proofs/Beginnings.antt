@@ -190,7 +190,7 @@ tie-free s ties more u old names stands fit fits distinct had =
 
 -- ---- the whole
 
-start-idle : (a : Actor) (h : List Event) → IsStart h → is_busy a h ≡ false
+pub start-idle : (a : Actor) (h : List Event) → IsStart h → is_busy a h ≡ false
 start-idle a [] start = refl
 start-idle a (Seed n ∷ p) start = start-idle a p start
 start-idle a (Tie b c ∷ p) start = start-idle a p start
@@ -221,7 +221,7 @@ seeds-room s xs i n t stands few below =
     let short = length-take-le i xs (omega (arith, below)) in
     omega (arith, count, seeds, short, few, below)
 
-seeded-length : (xs : List SeedRow) (h : List Event) → length (seeded xs h) ≡ length xs
+pub seeded-length : (xs : List SeedRow) (h : List Event) → length (seeded xs h) ≡ length xs
 seeded-length [] h = refl
 seeded-length (x ∷ xs) h = (let rest = seeded-length xs (Seed x.node ∷ h) in omega (arith, rest))
 

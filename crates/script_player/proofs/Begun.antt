@@ -25,7 +25,7 @@ use Rattle.script_player.specs.Making.{HaltsOn}
 use Rattle.script_player.specs.Standing.{IsBetween}
 use Rattle.script_player.proofs.Halting.{halts-more}
 use Rattle.script_player.proofs.Ranges.{begins-legal}
-use Rattle.script_player.proofs.Schedules.{IsLonger, longer-again, onto-longer}
+use Rattle.run_model.proofs.FirstLimits.{IsLonger, longer-again, onto-longer}
 
 abbrev pub seed_of : SeedRow → Event
 seed_of x = Seed x.node

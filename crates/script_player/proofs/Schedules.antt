@@ -18,6 +18,7 @@ use Rattle.run_model.proofs.RoundQuiet.{round-more}
 use Rattle.run_model.proofs.TurnsDone.{act_events}
 use Rattle.true_config.proofs.Growing.{passes-none}
 use Rattle.script_player.specs.Making.{IsCarriedNext, NothingCarried}
+use Rattle.run_model.proofs.FirstLimits.{IsLonger, longer-again, onto-longer}
 
 -- ---- one thing more
 
@@ -55,19 +56,8 @@ module _ (s : Scripted) (h : List Event) where
 
 -- ---- a whole turn
 
--- h is p with later events
-abbrev pub IsLonger : List Event → List Event → Type 0
-IsLonger p h = (q : List Event) × (h ≡ q ++ p)
-
-pub longer-again : (p h g : List Event) → IsLonger p h → IsLonger h g → IsLonger p g
-longer-again p h g first second = (second.0 ++ first.0, second.1 ∙ ap (λ x. second.0 ++ x) first.1 ∙ sym (append_assoc second.0 first.0 p))
-
 pub longer-length : (p h : List Event) → IsLonger p h → length p ≤ length h
 longer-length p h (q, more) = (let sum = ap length more ∙ length-append q p in omega (arith, sum))
-
-pub onto-longer : (h es : List Event) → IsLonger h (onto h es)
-onto-longer h [] = ([], refl)
-onto-longer h (e ∷ es) = longer-again h (e ∷ h) (onto (e ∷ h) es) (e ∷ [], refl) (onto-longer (e ∷ h) es)
 
 module _ (s : Scripted) where
   pub rounded-longer : (turns : ℕ) (h : List Event) → IsLonger h (rounded s turns h)

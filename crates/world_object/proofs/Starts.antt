@@ -28,6 +28,7 @@ use Rattle.run_model.proofs.SeedRows.{seeded-snoc, seeds_done, seeds_done-snoc}
 use Rattle.world_object.specs.declared.parts.ClusterParts.{ClusterParts}
 use Rattle.world_object.specs.Standing.{IsBegun, Stands, opening_of}
 use Rattle.run_model.proofs.ScriptRanges.{script-in_ranges}
+use Rattle.script_actors.proofs.Beginnings.{seeded-length, start-idle}
 
 -- one row more
 row-more : {A : Type 0} (xs : List A) (i : ℕ) (x : A) → i < length xs → x ≡ get_or xs i x → take (i + 1) xs ≡ take i xs ++ x ∷ []
@@ -56,10 +57,6 @@ ties-more s start xs i x below is h later a b past more from to =
     more ∙ ap (λ p. Tie a b ∷ p) past ∙ (λ j. Tie (from j) (to j) ∷ ties_done s (take i xs) start) ∙ sym (ap (λ ys. ties_done s ys start) row ∙ ties_done-snoc s (take i xs) x start)
 
 -- ---- sums over seeds
-
-seeded-length : (xs : List SeedRow) (h : List Event) → length (seeded xs h) ≡ length xs
-seeded-length [] h = refl
-seeded-length (x ∷ xs) h = (let rest = seeded-length xs (Seed x.node ∷ h) in omega (arith, rest))
 
 pub few-seeds : (p : ClusterParts) → Stands p → length p.seeds ≤ 4096
 few-seeds p stands =
@@ -91,12 +88,6 @@ pub sum-fits : (f : Actor → ℕ) (xs : List Actor) (i sum n : ℕ) → length 
 sum-fits f xs i sum n few below short so = (let small = so.small in omega (arith, few, below, short, small))
 
 -- ---- the whole
-
-start-idle : (a : Actor) (h : List Event) → IsStart h → is_busy a h ≡ false
-start-idle a [] start = refl
-start-idle a (Seed n ∷ p) start = start-idle a p start
-start-idle a (Tie b c ∷ p) start = start-idle a p start
-start-idle a (e ∷ p) start = absurd start
 
 -- the parts that were made stand, and are those of a new cluster
 module _ (p : ClusterParts) (s : Scripted) (script : p.script.value ≡ s) (fits : IsScript s) (world : IsBegun s (beginning s) p.world) (seeds : p.seeds ≡ seed_actors s)

@@ -1,8 +1,9 @@
 use Rattle.std.proofs.Common.{◌+◌, ◌≢◌}
 use Rattle.operation_model.specs.declared.operations.Op.TheVariants as ops
 use Rattle.node_threads.specs.Pumping.{HasCarries, IsMade}
-use Rattle.node_threads.proofs.PumpLemmas.{all-carried, carries-more, same-then, since-then}
+use Rattle.node_threads.proofs.PumpLemmas.{all-carried, carries-more, since-then}
 use Rattle.node_threads.proofs.rounds.carry_all.Goals as goal
+use Rattle.cluster_calls.proofs.Same.{same-then}
 
 pub loop-number-preserved : goal.loop-number-preserved
 loop-number-preserved g c =
