@@ -1,7 +1,7 @@
 -- What is granted in a lock that was made with a sound cluster is legal, and so is what is added to it.
-use Rattle.std.proofs.Common.{◌≡◌, ◌==◌, ◌&&◌, ◌++◌, ◌⊎◌, ℕ, Bool, true, false, not, nat_lt, List, [], ◌∷◌, length, option_map, option_to_list, Option, Some, None, refl, sym, ap, subst, if◌then◌else◌, is_none, inl, inr}
+use Rattle.std.proofs.Common.{◌≡◌, ◌==◌, ◌&&◌, ◌++◌, ◌⊎◌, ℕ, Bool, true, false, not, nat_lt, List, [], ◌∷◌, length, option_map, option_to_list, Option, Some, None, refl, sym, ap, subst, if◌then◌else◌, inl, inr}
 use Rattle.std.specs.List.{find}
-use Rattle.std.proofs.lemmas.Bool.{and_parts, false≢true, lt-ltb}
+use Rattle.std.proofs.lemmas.Bool.{and_parts, lt-ltb}
 use Rattle.crgc_ids.specs.Actor.{Actor}
 use Rattle.crgc_ids.specs.Nodes.{nodes_below}
 use Rattle.crgc_ids.specs.declared.Which.{Which}

@@ -1,5 +1,5 @@
 -- Searches over ranges of numbers: which number is found first.
-use Rattle.std.proofs.Common.{◌≡◌, ◌+◌, ◌<◌, ◌≤◌, ℕ, zero, suc, Bool, true, false, cond, List, Option, Some, None, refl, sym, ap, subst, arith}
+use Rattle.std.proofs.Common.{◌≡◌, ◌+◌, ◌<◌, ◌≤◌, ℕ, zero, suc, Bool, true, false, cond, Some, None, refl, sym, ap, subst, arith}
 use Rattle.std.specs.List.{find, range_with_len}
 
 -- how the first number stands to the one that is sought

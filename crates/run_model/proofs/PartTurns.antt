@@ -1,6 +1,6 @@
 -- Turns of the fixed schedule that are under way: each act was due, what is due next is legal, and it comes next in the whole
 -- turn.
-use Rattle.std.proofs.Common.{◌≡◌, ℕ, true, false, List, [], ◌∷◌, ◌++◌, append_assoc, Option, Some, None, refl, sym, ◌∙◌, ap, subst, inl, inr}
+use Rattle.std.proofs.Common.{◌≡◌, ℕ, false, List, [], ◌∷◌, ◌++◌, append_assoc, Option, Some, None, refl, sym, ◌∙◌, ap, subst, inl, inr}
 use Rattle.std.proofs.lemmas.Bool.{false≢true}
 use Rattle.crgc_ids.specs.Actor.{Actor}
 use Rattle.history_model.specs.declared.events.Event.{Event}
@@ -15,13 +15,13 @@ use Rattle.fault_plan.specs.Rows.{Planned, crash_of}
 use Rattle.script_reader.specs.Valid.{Scripted}
 use Rattle.run_model.specs.Doing.{beginning, cluster_of, doing, due, event_of}
 use Rattle.run_model.specs.Planned.{crash_due, ended_on, is_rest}
-use Rattle.run_model.specs.Schedule.{AreDue, crashed, schedule, turn_done}
+use Rattle.run_model.specs.Schedule.{AreDue, crashed, schedule}
 use Rattle.run_model.specs.Turns.{BeginsTurn, ComesNext, IsUnderWay}
-use Rattle.run_model.proofs.ActsLegal.{busy-born, none-broken}
+use Rattle.run_model.proofs.ActsLegal.{busy-born}
 use Rattle.run_model.proofs.Runs.{IsSound, sound-due, sound-next}
 use Rattle.run_model.proofs.Scheduled.{crash-sound, schedule-sound, take-busy, wake-busy}
 use Rattle.run_model.proofs.TurnsDone.{IsBusyIn, act_events}
-use Rattle.run_model.proofs.TurnsDue.{Finished, ActsAt, SizeAt, due-done, step-same, steps-same}
+use Rattle.run_model.proofs.TurnsDue.{ActsAt, due-done, step-same, steps-same}
 
 module _ (s : Scripted) (a : Actor) where
   -- a turn begins

@@ -4,7 +4,6 @@ use Rattle.std.proofs.lemmas.Bool.{and_parts, false≢true}
 use Rattle.crgc_ids.specs.Actor.{Actor, same_actor}
 use Rattle.history_model.specs.declared.events.Event.{Event}
 use Rattle.history_model.specs.declared.events.Event.TheVariants.{Seed, Tie, Spawn, Send, Drop, Retire}
-use Rattle.history_model.specs.declared.events.Rule.{Rule}
 use Rattle.history_model.specs.Legal.{IsLegal, refusal}
 use Rattle.history_model.specs.State.{is_busy, is_up}
 use Rattle.history_model.proofs.Basics.{same_actor-equal, same_actor-refl}

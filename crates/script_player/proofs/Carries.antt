@@ -1,27 +1,21 @@
 -- What can be carried: the first link that has a head, and none where no link has one.
-use Rattle.std.proofs.Common.{◌≡◌, ◌≢◌, ◌+◌, ◌-◌, ◌<◌, ◌==◌, ◌&&◌, ℕ, Bool, true, false, not, is_none, nat_lt, List, [], ◌∷◌, ◌++◌, length, option_to_list, Option, Some, None, refl, sym, ◌∙◌, ap, subst, arith, inl, inr, if◌then◌else◌}
+use Rattle.std.proofs.Common.{◌≡◌, ◌≢◌, ◌+◌, ◌-◌, ◌<◌, ◌==◌, ◌&&◌, ℕ, Bool, true, false, not, is_none, nat_lt, List, ◌∷◌, length, option_to_list, Some, None, refl, sym, ◌∙◌, ap, subst, arith, inl, inr, if◌then◌else◌}
 use Rattle.std.specs.List.{filter_map, find, list_any}
 use Rattle.std.specs.Option.{option_map}
-use Rattle.std.proofs.lemmas.Bool.{and_parts, cases_lt, eq-eqb, false_from_ne_true, false≢true, lt-ltb, ltb-true, ne_eqb}
+use Rattle.std.proofs.lemmas.Bool.{cases_lt, false_from_ne_true, lt-ltb, ltb-true, ne_eqb}
 use Rattle.crgc_ids.specs.Nodes.{nodes_below}
 use Rattle.history_model.specs.declared.events.Event.{Event}
 use Rattle.history_model.specs.declared.events.Event.TheVariants.{Admit, Lose, Repeat}
-use Rattle.history_model.specs.declared.events.Rule.{Rule}
-use Rattle.history_model.specs.declared.events.Rule.TheVariants.{NotOnLink}
-use Rattle.history_model.specs.Cluster.{Cluster}
-use Rattle.history_model.specs.Legal.{Check, IsLegal, check, checks, first_broken, link_checks, refusal}
-use Rattle.history_model.specs.Messages.{copies, is_admit, is_closed, is_lose, is_repeat, sent}
+use Rattle.history_model.specs.Legal.{IsLegal}
+use Rattle.history_model.specs.Messages.{copies, is_admit, is_lose, is_repeat, sent}
 use Rattle.history_model.specs.Tally.{tally}
-use Rattle.history_model.specs.State.{is_up}
 use Rattle.history_model.proofs.AccountsCopies.{copies-was_sent}
-use Rattle.history_model.proofs.Basics.{AreKept, first_broken-none}
 use Rattle.fault_plan.specs.Rows.{Planned}
 use Rattle.script_reader.specs.Valid.{Scripted}
 use Rattle.traffic.specs.Readings.{IsHead, IsOnOpenLink}
 use Rattle.run_model.specs.Doing.{cluster_of}
 use Rattle.run_model.specs.Planned.{carry, has_row, is_possible, lowest_copy, next_on_link}
 use Rattle.run_model.specs.Schedule.{carries}
-use Rattle.run_model.proofs.ActsLegal.{none-broken}
 use Rattle.script_player.specs.Links.{AreStillBefore, IsLinkBefore, IsStill}
 use Rattle.script_player.specs.Making.{NothingCarried}
 use Rattle.script_player.proofs.Searching.{filter_map-joined, first-in, none-in, one-fails, one-passes}

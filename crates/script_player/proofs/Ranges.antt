@@ -1,12 +1,8 @@
 -- What a script's ranges give: it is in its ranges, so what the schedule makes of it is legal.
-use Rattle.std.proofs.Common.{◌≡◌, ◌&&◌, ◌==◌, ℕ, Bool, true, not, nat_lt, nat_le, List, [], ◌∷◌, length, refl, subst}
-use Rattle.std.specs.List.{list_all}
-use Rattle.std.proofs.lemmas.Bool.{and_parts}
+use Rattle.std.proofs.Common.{ℕ, subst}
 use Rattle.history_model.specs.Legal.{IsLegal}
-use Rattle.behaviour_lang.specs.Names.{is_local_name}
-use Rattle.script_reader.specs.Valid.{IsScript, Scripted, is_seed, is_tie}
-use Rattle.script_reader.specs.declared.script.Seed.{Seed as SeedRow}
-use Rattle.run_model.specs.Doing.{beginning, cluster_of, is_in_ranges, is_tie_in}
+use Rattle.script_reader.specs.Valid.{IsScript, Scripted}
+use Rattle.run_model.specs.Doing.{beginning, cluster_of}
 use Rattle.run_model.specs.Schedule.{schedule}
 use Rattle.run_model.proofs.Scheduled.{schedule-sound}
 use Rattle.run_model.proofs.SeedsLegal.{beginning-legal}

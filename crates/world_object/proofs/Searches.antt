@@ -1,28 +1,23 @@
 -- What is found first: nodes, copies on links, and seeds that may wake.
-use Rattle.std.proofs.Common.{◌≡◌, ◌≢◌, ◌+◌, ◌-◌, ◌*◌, ◌<◌, ◌≤◌, ◌&&◌, ◌++◌, ℕ, zero, suc, Bool, true, false, not, cond, is_none, nat_lt, if◌then◌else◌, List, [], ◌∷◌, length, option_map, Option, Some, None, refl, sym, ◌∙◌, ap, subst, arith, inl, inr}
+use Rattle.std.proofs.Common.{◌≡◌, ◌≢◌, ◌+◌, ◌-◌, ◌*◌, ◌<◌, ◌&&◌, ℕ, Bool, true, false, not, is_none, nat_lt, if◌then◌else◌, List, length, option_map, Option, Some, None, refl, sym, ◌∙◌, ap, subst, arith, inl, inr}
 use Rattle.std.specs.Prelude.{is_some}
-use Rattle.std.specs.List.{find, list_any, range_with_len}
-use Rattle.std.proofs.lemmas.Bool.{and_from, and_parts, cases_lt, eq-eqb, false_from_ne_true, false≢true, lt-ltb, ltb-true, ne_eqb}
+use Rattle.std.specs.List.{find}
+use Rattle.std.proofs.lemmas.Bool.{and_from, cases_lt, false_from_ne_true, false≢true, lt-ltb, ltb-true}
 use Rattle.crgc_ids.specs.Actor.{Actor, IsActorBelow}
 use Rattle.crgc_ids.specs.Nodes.{nodes_below}
 use Rattle.crgc_ids.proofs.ActorLaws.{same_parts}
 use Rattle.history_model.specs.declared.events.Event.{Event}
-use Rattle.history_model.specs.declared.events.Event.TheVariants.{Admit, Lose, Remove, Repeat, Wake, Window}
+use Rattle.history_model.specs.declared.events.Event.TheVariants.{Remove, Wake, Window}
 use Rattle.history_model.specs.declared.events.Rule.{Rule}
-use Rattle.history_model.specs.declared.events.Rule.TheVariants.{NotOnLink}
-use Rattle.history_model.specs.Cluster.{Cluster}
-use Rattle.history_model.specs.Legal.{Check, IsLegal, check, checks, first_broken, link_checks, refusal}
-use Rattle.history_model.specs.Messages.{copies, is_closed, is_lose, is_repeat, sent}
-use Rattle.history_model.specs.State.{is_up}
+use Rattle.history_model.specs.Legal.{IsLegal, checks, refusal}
+use Rattle.history_model.specs.Messages.{copies, sent}
 use Rattle.history_model.proofs.AccountsBirths.{born-on_node}
 use Rattle.history_model.proofs.AccountsCopies.{copies-was_sent}
-use Rattle.history_model.proofs.Basics.{AreKept, first_broken-none}
-use Rattle.fault_plan.specs.Rows.{Planned}
+use Rattle.history_model.proofs.Basics.{first_broken-none}
 use Rattle.script_reader.specs.Valid.{Scripted}
 use Rattle.traffic.specs.Readings.{IsHead, IsLowestNode, IsOnOpenLink}
 use Rattle.run_model.specs.Doing.{cluster_of}
 use Rattle.run_model.specs.Planned.{carry, has_row, is_possible, lowest_copy, next_on_link, next_wake, wakes_left}
-use Rattle.run_model.proofs.ActsLegal.{none-broken}
 use Rattle.run_model.proofs.LowestActors.{find-lowest, find-nobody}
 use Rattle.std.proofs.lemmas.Option.{none-some, same_Some}
 use Rattle.script_progress.specs.declared.carry.Carry.{Carry}

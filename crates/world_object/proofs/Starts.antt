@@ -1,18 +1,15 @@
 -- The seeds and ties of a script, one after another.
-use Rattle.std.proofs.Common.{◌≡◌, ◌+◌, ◌≤◌, ◌<◌, ◌*◌, ◌^◌, ◌==◌, ◌&&◌, ℕ, zero, suc, Bool, false, not, nat_le, nat_lt, Option, None, List, [], ◌∷◌, ◌++◌, get_or, length, map, take, true, refl, sym, ◌∙◌, ap, subst, arith}
-use Rattle.std.specs.List.{AllByRecursion, list_all, sum_by}
-use Rattle.std.proofs.lemmas.Bool.{and_parts}
+use Rattle.std.proofs.Common.{◌≡◌, ◌+◌, ◌≤◌, ◌<◌, ◌*◌, ◌^◌, ℕ, zero, suc, Option, None, List, [], ◌∷◌, ◌++◌, get_or, length, map, take, true, refl, sym, ◌∙◌, ap, subst, arith}
+use Rattle.std.specs.List.{AllByRecursion, sum_by}
 use Rattle.std.proofs.lemmas.List.{take_more}
 use Rattle.std.proofs.lemmas.List.Sums.{sum_by-append}
 use Rattle.crgc_ids.specs.Actor.{Actor}
 use Rattle.history_model.specs.declared.events.Event.{Event}
 use Rattle.history_model.specs.declared.events.Event.TheVariants.{Seed, Tie}
 use Rattle.history_model.specs.Cluster.{is_born, newborn}
-use Rattle.history_model.specs.State.{is_busy}
-use Rattle.behaviour_lang.specs.Names.{is_local_name}
 use Rattle.operation_model.specs.Openings.{IsNew}
 use Rattle.run_model.specs.Sound.{IsSound}
-use Rattle.run_model.proofs.Beginnings.{IsStart, beginning-holds, beginning-start, start-doing}
+use Rattle.run_model.proofs.Beginnings.{beginning-holds, beginning-start, start-doing}
 use Rattle.run_model.proofs.SeedsLegal.{beginning-legal}
 use Rattle.script_actors.specs.Standing.{AreActorsAt}
 use Rattle.script_actors.specs.Table.{behaviour_at, names_at}
@@ -20,10 +17,10 @@ use Rattle.script_progress.specs.Standing.{IsProgressAt}
 use Rattle.world_object.specs.State.{names_or_none}
 use Rattle.world_object.proofs.Openings.{behaviour-is, names-are}
 use Rattle.history_model.specs.Rows.{onto}
-use Rattle.script_reader.specs.Valid.{IsScript, Scripted, is_seed, is_tie}
+use Rattle.script_reader.specs.Valid.{IsScript, Scripted}
 use Rattle.script_reader.specs.declared.script.Seed.{Seed as SeedRow}
 use Rattle.script_reader.specs.declared.script.Tie.{Tie as TieRow}
-use Rattle.run_model.specs.Doing.{Doing, as_seed, beginning, behaviour_of, cluster_of, doing, first_names, is_in_ranges, is_tie_in, row_of, seed_actors, seed_number, seeded, tie_of}
+use Rattle.run_model.specs.Doing.{Doing, as_seed, beginning, behaviour_of, cluster_of, doing, first_names, is_in_ranges, row_of, seed_actors, seed_number, seeded, tie_of}
 use Rattle.run_model.proofs.SeedRows.{seeded-snoc, seeds_done, seeds_done-snoc}
 use Rattle.world_object.specs.declared.parts.ClusterParts.{ClusterParts}
 use Rattle.world_object.specs.Standing.{IsBegun, Stands, opening_of}
