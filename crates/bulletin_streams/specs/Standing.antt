@@ -15,6 +15,7 @@ use Rattle.history_model.specs.Tells.{TellEntries, Tells, TellsEntry, TellsWindo
 use Rattle.journal_model.specs.Limits.{passes_delta}
 use Rattle.journal_model.specs.Lines.{AreWithinRanges}
 use Rattle.bulletin_streams.specs.StreamState.{StreamState, stream_at}
+use Rattle.crgc_ids.specs.declared.limits.TheConstants.{MOST_EVENTS, MOST_NAMED}
 
 -- how many entries node n has queued since its last publish
 abbrev pub queued : ℕ → List Event → ℕ
@@ -78,7 +79,7 @@ pub record IsWithinLimits (cl : Cluster) (h : List Event) : Type 0 where
   pub legal : IsLegal cl h
   pub ranges : AreWithinRanges h
   pub names : KeepsDeltaLimit cl h
-  pub events : length h ≤ 1000000
+  pub events : length h ≤ MOST_EVENTS
 
 -- no section has more rows than four bytes count
 pub record HasFewRows (l : Ledger) : Type 0 where
@@ -97,4 +98,4 @@ IsOfTwoNodes (bulletins.Final w) = w.from ≢ w.at
 pub record FitsWire (b : Bulletin) : Type 0 where
   pub ends : IsOfTwoNodes b
   pub rows : HasFewRows (bulletin_ledger b)
-  pub names : length (rising_actors (ledger_names (bulletin_ledger b))) ≤ 200000
+  pub names : length (rising_actors (ledger_names (bulletin_ledger b))) ≤ MOST_NAMED

@@ -10,6 +10,7 @@ ghost use Rattle.journal_model.specs.Lines.{AreWithinRanges};
 ghost use Rattle.delta_graph.specs.Sums.{CountsFit};
 ghost use Rattle.bulletin_streams.specs.Standing.{AreStreamsOf, FitsWire, IsWithinLimits, StandAfter, TellsLink, TellsNumber, is_silent};
 ghost use Rattle.bulletin_streams.specs.StreamState.{AreAlike, StreamState, stream_at};
+ghost use Rattle.crgc_ids.specs.declared.limits.TheConstants.{MOST_EVENTS};
 
 use history_model::{Entry, Window};
 
@@ -49,7 +50,7 @@ pub fn a_window_tells_its_link()
 /// and a stream has no more bulletins than the history has events.
 pub fn streams_are_no_larger_than_their_history()
     ensures queue { (cl : Cluster) (h : List Event) (streams : List StreamState) (n : ℕ) → AreStreamsOf cl h streams → n < 16
-        → AreWithinRanges h → length h ≤ 1000000 → CountsFit (entries_ledger (stream_at streams n).entries) }
+        → AreWithinRanges h → length h ≤ MOST_EVENTS → CountsFit (entries_ledger (stream_at streams n).entries) }
     ensures stream { (cl : Cluster) (h : List Event) (streams : List StreamState) (n : ℕ) → AreStreamsOf cl h streams → n < 16
         → length (stream_at streams n).bulletins ≤ length h }
 {}

@@ -7,6 +7,7 @@ ghost use Rattle.history_model.specs.Ledgers.{CountFromOne, entries_ledger, entr
 ghost use Rattle.history_model.specs.Tells.{IsOrdered};
 ghost use Rattle.delta_graph.specs.Sums.{CountsFit, IsFaultOf, named_count};
 ghost use Rattle.bulletin_streams.specs.StreamState.{Appends, IsAlike, Publishes, Queues, StreamState, TakesBack, blank};
+ghost use Rattle.crgc_ids.specs.declared.limits.TheConstants.{MOST_NAMED};
 
 use crate::laws::{a_window_is_in_order, an_entry_counts_from_one};
 use crgc_ids::{NoMemory, NodeId};
@@ -95,7 +96,7 @@ impl NodeStream {
     pub fn publish(&mut self, node: NodeId) -> Result<(), DeltaFault>
         requires { CountsFit (entries_ledger self.old.entries) }
         ensures ok { OnOk result (Publishes node self.old self.new) }
-        ensures named { OnOk result (named_count self.old.entries ≤ 200000) }
+        ensures named { OnOk result (named_count self.old.entries ≤ MOST_NAMED) }
         ensures fault { IfErr result (λ f. IsFaultOf self.old.entries f) }
         ensures err { OnErr result (IsAlike self.old self.new) }
         ensures stand { AllByRecursion (λ e. CountFromOne (entry_ledger e)) self.old.entries }
@@ -112,7 +113,7 @@ impl NodeStream {
     /// Whether the entries name more actors than a Delta may.
     pub fn names_too_many(&self, node: NodeId) -> Result<bool, NoMemory>
         requires { CountsFit (entries_ledger self.now.entries) }
-        ensures value { IfOk result (λ b. b ≡ nat_lt 200000 (named_count self.now.entries)) }
+        ensures value { IfOk result (λ b. b ≡ nat_lt MOST_NAMED (named_count self.now.entries)) }
         ensures stand { AllByRecursion (λ e. CountFromOne (entry_ledger e)) self.now.entries }
     {
         let alloc = *self.entries.allocator();

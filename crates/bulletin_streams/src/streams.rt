@@ -13,6 +13,7 @@ ghost use Rattle.delta_graph.specs.declared.fault.DeltaFault.TheVariants.{TableF
 ghost use Rattle.delta_graph.specs.Sums.{CountsFit, IsFaultOf, named_count};
 ghost use Rattle.bulletin_streams.specs.Standing.{AreStreamsOf, SaysLimit, StandAfter, TellsFlush, TellsLink, TellsNumber, queued};
 ghost use Rattle.bulletin_streams.specs.StreamState.{Appends, AreAlike, ChangesAt, Publishes, Queues, StreamState, TakesBack, stream_at};
+ghost use Rattle.crgc_ids.specs.declared.limits.TheConstants.{MOST_NAMED};
 
 use crate::node_stream::NodeStream;
 use crgc_ids::{NoMemory, NodeId};
@@ -95,7 +96,7 @@ impl BulletinStreams {
     pub fn publish(&mut self, node: NodeId) -> Result<(), DeltaFault>
         requires fits { CountsFit (entries_ledger (stream_at self.old node).entries) }
         ensures change { OnOk result (ChangesAt self.old self.new node (Publishes node)) }
-        ensures named { OnOk result (named_count (stream_at self.old node).entries ≤ 200000) }
+        ensures named { OnOk result (named_count (stream_at self.old node).entries ≤ MOST_NAMED) }
         ensures fault { IfErr result (IsFaultOf (stream_at self.old node).entries) }
         ensures err { OnErr result (AreAlike self.old self.new) }
         ensures stands { OnOk result ((cl : Cluster) (p : List Event) → StandAfter cl (Publish node) p self.old self.new) }
@@ -109,7 +110,7 @@ impl BulletinStreams {
     /// Time in proportion to n log n for n rows of the entries.
     pub fn names_too_many(&self, node: NodeId) -> Result<bool, NoMemory>
         requires fits { CountsFit (entries_ledger (stream_at self.now node).entries) }
-        ensures value { IfOk result (λ b. b ≡ nat_lt 200000 (named_count (stream_at self.now node).entries)) }
+        ensures value { IfOk result (λ b. b ≡ nat_lt MOST_NAMED (named_count (stream_at self.now node).entries)) }
         ensures told { IfOk result (SaysLimit self.now node) }
     {
         self.nodes[node.get() as usize].names_too_many(node)

@@ -7,6 +7,7 @@ use Rattle.shadow_graph.specs.Seen.{is_dropped}
 use Rattle.shadow_table.specs.Shadows.{is_named}
 use Rattle.collector.specs.Collected.{Collected, cut_of, node_count, was_stopped}
 use Rattle.collector.specs.Refusals.{IsFit}
+use Rattle.crgc_ids.specs.declared.limits.TheConstants.{MOST_EVENTS}
 
 -- the graph counts what the order gave up; each bulletin that waits may be folded; whoever was stopped was named, and whoever
 -- was dropped was stopped
@@ -16,7 +17,7 @@ pub record IsKept (c : Collected) : Type 0 where
   pub cut : c.graph.cut ≡ c.order.cut
   pub few : node_count c ≤ 16
   pub long : length c.order.cut ≡ 16
-  pub counts : (o : ℕ) → cut_of c o ≤ 1000000
+  pub counts : (o : ℕ) → cut_of c o ≤ MOST_EVENTS
   pub beyond : (o : ℕ) → node_count c ≤ o → cut_of c o ≡ 0
   pub fit : (o k : ℕ) (b : Bulletin) → kept_at c.order o k ≡ Some b → IsFit (node_count c) o b
   pub named : (a : Actor) → was_stopped c a ≡ true → is_named c.graph.shadows.names a ≡ true

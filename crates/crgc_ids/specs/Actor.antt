@@ -2,6 +2,7 @@
 use Rattle.std.specs.Prelude.{ℕ, ◌≡◌, ◌+◌, ◌*◌, ◌<◌, ◌⊎◌, ◌==◌, ◌&&◌, ◌||◌, Bool, nat_lt}
 use Rattle.std.specs.Ordering.{nat_cmp, ordering_then}
 use Rattle.std.specs.declared.cmp.Ordering.{Ordering}
+use Rattle.crgc_ids.specs.declared.limits.TheConstants.{MOST_ACTORS}
 
 pub record Actor : Type 0 where
   pub node : ℕ
@@ -9,7 +10,7 @@ pub record Actor : Type 0 where
 
 -- a node's number is below 16, a serial below 262,144
 abbrev pub IsActor : Actor → Type 0
-IsActor a = (a.node < 16) × (a.serial < 262144)
+IsActor a = (a.node < 16) × (a.serial < MOST_ACTORS)
 
 -- actors are ordered by node, then by serial
 abbrev pub IsActorBelow : Actor → Actor → Type 0
@@ -34,4 +35,4 @@ actor_cmp a b = ordering_then (nat_cmp a.node b.node) (nat_cmp a.serial b.serial
 
 -- the two numbers as one
 abbrev pub actor_number : Actor → ℕ
-actor_number a = a.node * 262144 + a.serial
+actor_number a = a.node * MOST_ACTORS + a.serial

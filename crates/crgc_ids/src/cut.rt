@@ -1,5 +1,6 @@
 //! How far a node has folded what each node published.
 ghost use Rattle.std.specs.Prelude.{◌≡◌, ◌+◌, ◌<◌, length, replicate, slice_index, slice_set};
+ghost use Rattle.crgc_ids.specs.declared.limits.TheConstants.{MOST_EVENTS};
 
 use crate::ids::NodeId;
 use std::marker::Model;
@@ -40,7 +41,7 @@ impl Cut {
 
     /// Adds one to the count of the node, and to no other.
     pub fn raise(&mut self, n: NodeId)
-        requires { slice_index self.old n < 1_000_000 }
+        requires { slice_index self.old n < MOST_EVENTS }
         ensures { self.new ≡ slice_set self.old n (slice_index self.old n + 1) }
     {
         self.counts[n.get() as usize] += 1;

@@ -5,7 +5,9 @@ ghost use Rattle.std.specs.Cmp.Rules.{comparing, hashing};
 ghost use Rattle.std.specs.Ordering.{as_partial_cmp};
 ghost use Rattle.std.specs.Hash as fed;
 ghost use Rattle.std.specs.Prelude.{◌≡◌, ◌<◌, ◌≤◌, ◌↔◌, IfSome, IfNone, OnSome};
+ghost use Rattle.crgc_ids.specs.declared.limits.TheConstants.{MOST_ACTORS};
 
+use crate::limits::MOST_ACTORS;
 use std::cmp::Ordering;
 use std::hash::{Hash, Hasher};
 use std::marker::Model;
@@ -62,10 +64,11 @@ pub struct ActorId {
 impl Model for ActorId {
     ghost use Rattle.std.specs.Prelude.{◌<◌, ◌/◌, ◌%◌};
     ghost use Rattle.crgc_ids.specs.Actor.{Actor, actor_number};
+    ghost use Rattle.crgc_ids.specs.declared.limits.TheConstants.{MOST_ACTORS};
 
     ghost Value = { Actor };
 
-    ghost view = { λ a. record { node = a.number / 262144; serial = a.number % 262144 } };
+    ghost view = { λ a. record { node = a.number / MOST_ACTORS; serial = a.number % MOST_ACTORS } };
 
     ghost invariant = { λ a. a.number < 4194304 };
 
@@ -133,12 +136,12 @@ impl ActorId {
     /// The actor with this serial on this node; None exactly at 262,144 and above.
     pub fn new(node: NodeId, serial: u32) -> Option<ActorId>
         ensures some { IfSome result (λ a. (a.node ≡ node) × (a.serial ≡ serial)) }
-        ensures in_range { OnSome result (serial < 262144) }
-        ensures none { IfNone result (262144 ≤ serial) }
+        ensures in_range { OnSome result (serial < MOST_ACTORS) }
+        ensures none { IfNone result (MOST_ACTORS ≤ serial) }
     {
-        if serial < 262_144 {
+        if serial < MOST_ACTORS {
             Some(ActorId {
-                number: u32::from(node.get()) * 262_144 + serial,
+                number: u32::from(node.get()) * MOST_ACTORS + serial,
             })
         } else {
             None
@@ -150,15 +153,15 @@ impl ActorId {
         ensures { result ≡ self.node }
     {
         NodeId {
-            number: (self.number / 262_144) as u8,
+            number: (self.number / MOST_ACTORS) as u8,
         }
     }
 
     /// Its serial on its node, below 262,144.
     pub fn serial(self) -> u32
         ensures number { result ≡ self.serial }
-        ensures in_range { result < 262144 }
+        ensures in_range { result < MOST_ACTORS }
     {
-        self.number % 262_144
+        self.number % MOST_ACTORS
     }
 }

@@ -4,12 +4,14 @@
 mod cut;
 mod ids;
 pub mod laws;
+mod limits;
 mod lists;
 mod node_set;
 mod rising;
 
 pub use cut::Cut;
 pub use ids::{ActorId, NodeId};
+pub use limits::{MOST_ACTORS, MOST_BYTES, MOST_EVENTS, MOST_NAMED};
 pub use lists::{ActorList, ItemList, Octets, RefList};
 pub use node_set::NodeSet;
 pub use rising::{ActorCount, ActorCounts, PairCount, PairCounts, RisingList, Row};

@@ -7,6 +7,7 @@ use Rattle.history_model.specs.Graph.{rising_actors}
 use Rattle.history_model.specs.Ledgers.{Ledger, actor_total, entries_ledger, ledger_names, pair_total, received_total}
 use Rattle.delta_graph.specs.declared.fault.DeltaFault.{DeltaFault}
 use Rattle.delta_graph.specs.declared.fault.DeltaFault.TheVariants.{NoMemory, TableFull}
+use Rattle.crgc_ids.specs.declared.limits.TheConstants.{MOST_NAMED}
 
 -- all counts of the rows together
 abbrev pub count_sum : Ledger → ℕ
@@ -25,5 +26,5 @@ named_count entries = length (rising_actors (ledger_names (entries_ledger entrie
 
 -- what each fault says of the entries: more than 200,000 actors are named, or nothing, for want of memory
 abbrev pub IsFaultOf : List Entry → DeltaFault → Type 0
-IsFaultOf entries TableFull = 200000 < named_count entries
+IsFaultOf entries TableFull = MOST_NAMED < named_count entries
 IsFaultOf entries NoMemory = Unit {0}

@@ -4,6 +4,7 @@ ghost use Rattle.history_model.specs.Graph.{rising_actors};
 ghost use Rattle.history_model.specs.Ledgers.{IsInOrder, delta_ledger, entries_ledger, ledger_names};
 ghost use Rattle.history_model.specs.Tells.{IsDeltaOf};
 ghost use Rattle.delta_graph.specs.Sums.{CountsFit, IsFaultOf, named_count};
+ghost use Rattle.crgc_ids.specs.declared.limits.TheConstants.{MOST_NAMED};
 
 use crate::fault::DeltaFault;
 use crate::gathered::{created_of, released_of, sent_of, states_of};
@@ -21,7 +22,7 @@ pub fn delta_of(alloc: Global, node: NodeId, entries: &[Entry]) -> Result<Delta,
     requires { CountsFit (entries_ledger entries.now) }
     ensures sum { IfOk result (λ d. IsDeltaOf node entries.now d) }
     ensures ordered { IfOk result (λ d. IsInOrder (delta_ledger d)) }
-    ensures named { OnOk result (named_count entries.now ≤ 200000) }
+    ensures named { OnOk result (named_count entries.now ≤ MOST_NAMED) }
     ensures fault { IfErr result (λ f. IsFaultOf entries.now f) }
 {
     let delta = sum_of(alloc, node, entries)?;

@@ -2,8 +2,9 @@
 ghost use Rattle.std.specs.Prelude.{◌≡◌, ◌++◌, IfOk, OnOk, length, map, min, nat_lt};
 ghost use Rattle.history_model.specs.Graph.{rising_actors};
 ghost use Rattle.history_model.specs.Ledgers.{delta_ledger, ledger_names, pair_names};
+ghost use Rattle.crgc_ids.specs.declared.limits.TheConstants.{MOST_NAMED};
 
-use crgc_ids::{ActorCount, ActorId, NoMemory, PairCount};
+use crgc_ids::{ActorCount, ActorId, MOST_NAMED, NoMemory, PairCount};
 use history_model::{Delta, StateRow};
 use row_sums::compare_actors;
 use std::alloc::Global;
@@ -11,12 +12,12 @@ use std::alloc::Global;
 /// Whether the rows of a Delta name more than 200,000 different actors. Constant time where they have too few names for that,
 /// and else in proportion to n log n for n rows.
 pub fn names_too_many(alloc: Global, delta: &Delta) -> Result<bool, NoMemory>
-    ensures { IfOk result (λ b. b ≡ nat_lt 200000 (length (rising_actors (ledger_names (delta_ledger delta.now))))) }
+    ensures { IfOk result (λ b. b ≡ nat_lt MOST_NAMED (length (rising_actors (ledger_names (delta_ledger delta.now))))) }
 {
-    if names_of(delta) <= 200_000 {
+    if names_of(delta) <= MOST_NAMED {
         return Ok(false);
     }
-    Ok(named_in(alloc, delta)? > 200_000)
+    Ok(named_in(alloc, delta)? > MOST_NAMED)
 }
 
 /// How many names the rows of a Delta have, as far as 64 bits count.

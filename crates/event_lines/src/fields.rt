@@ -4,7 +4,7 @@ ghost use Rattle.journal_model.specs.Fields.{actor_of, first_actor, first_name, 
 ghost use Rattle.journal_model.specs.Shapes.{actor_field, ended, name_field, named_number, node_field, number_field};
 
 use crate::pieces::Pieces;
-use crgc_ids::{ActorId, NodeId};
+use crgc_ids::{ActorId, MOST_ACTORS, NodeId};
 use journal_model::LineFault;
 
 /// The number below the limit that is spelled so, in decimal without sign and without leading zeros. Linear time in
@@ -40,7 +40,7 @@ pub fn actor(word: &[u8]) -> Option<ActorId>
 {
     let mut parts = Pieces::of(word, b'.');
     let node = parts.node()?;
-    let serial = parts.number(262_144)?;
+    let serial = parts.number(u64::from(MOST_ACTORS))?;
     parts.end()?;
     ActorId::new(node, serial as u32)
 }

@@ -5,6 +5,7 @@ use Rattle.std.specs.Option.{is_some}
 use Rattle.history_model.specs.declared.records.Bulletin.{Bulletin}
 use Rattle.gossip_core.specs.declared.gossip.Offer.{Offer}
 use Rattle.gossip_core.specs.declared.gossip.Offer.TheVariants.{Old, Ready, Waiting}
+use Rattle.crgc_ids.specs.declared.limits.TheConstants.{MOST_EVENTS}
 
 -- how many nodes the cluster has; for each of the 16 origins that there may be, how many of its bulletins were given up; and
 -- the bulletins that are kept, each with its origin and number
@@ -33,10 +34,10 @@ was_offered g origin number = nat_lt number (count_at g origin) || is_some (kept
 pub record IsInOrder (g : Gossip) : Type 0 where
   pub nodes : g.nodes ≤ 16
   pub cut : length g.cut ≡ 16
-  pub counts : (origin : ℕ) → count_at g origin ≤ 1000000
+  pub counts : (origin : ℕ) → count_at g origin ≤ MOST_EVENTS
   pub origins : (origin number : ℕ) → IsSome (kept_at g origin number) → origin < g.nodes
   pub later : (origin number : ℕ) → IsSome (kept_at g origin number) → count_at g origin ≤ number
-  pub below : (origin number : ℕ) → IsSome (kept_at g origin number) → number < 1000000
+  pub below : (origin number : ℕ) → IsSome (kept_at g origin number) → number < MOST_EVENTS
 
 -- where a number stands to the cut of its origin
 abbrev pub IsAnswer : ℕ → ℕ → Offer → Type 0
@@ -57,7 +58,7 @@ pub record IsFirstReady (g : Gossip) (origin : ℕ) (b : Bulletin) : Type 0 wher
   pub ready : kept_at g origin (count_at g origin) ≡ Some b
   pub first : (o : ℕ) → o < origin → kept_at g o (count_at g o) ≡ None
   pub node : origin < g.nodes
-  pub below : count_at g origin < 1000000
+  pub below : count_at g origin < MOST_EVENTS
 
 -- the bulletin at the cut of the origin is kept no more, and that cut is one higher; all else is as it was
 pub record TakesOut (old new : Gossip) (origin : ℕ) : Type 0 where

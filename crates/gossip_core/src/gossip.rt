@@ -1,8 +1,9 @@
 //! The bulletins that wait for those before them.
 ghost use Rattle.std.specs.Prelude.{◌≡◌, ◌+◌, ◌<◌, ◌≤◌, ℕ, [], None, IfNone, IfOk, IfSome, IsSome, OnErr, OnOk, length, replicate, slice_set};
 ghost use Rattle.gossip_core.specs.Gossip.{IsAnswer, IsFirstReady, IsFirstMissing, KeepsFirst, TakesOut, count_at, kept_at, was_offered};
+ghost use Rattle.crgc_ids.specs.declared.limits.TheConstants.{MOST_EVENTS};
 
-use crgc_ids::{Cut, NoMemory, NodeId};
+use crgc_ids::{Cut, MOST_EVENTS, NoMemory, NodeId};
 use history_model::Bulletin;
 use std::alloc::Global;
 use std::collections::BTreeMap;
@@ -56,7 +57,7 @@ impl GossipCore {
     /// `NoMemory` comes only where none was, and all is then as before. Logarithmic time in the number of kept bulletins.
     pub fn offer(&mut self, origin: NodeId, number: u32, b: Bulletin) -> Result<Offer, NoMemory>
         requires origin { origin < self.old.nodes }
-        requires number { number < 1_000_000 }
+        requires number { number < MOST_EVENTS }
         ensures answer { IfOk result (λ answer. IsAnswer number (count_at self.old origin) answer) }
         ensures kept { OnOk result (KeepsFirst self.old self.new origin number b) }
         ensures err { OnErr result (self.new ≡ self.old) }
@@ -79,7 +80,7 @@ impl GossipCore {
     /// The bulletin is kept, unless one is kept under its number.
     fn keep_first(&mut self, origin: NodeId, number: u32, b: Bulletin) -> Result<(), NoMemory>
         requires origin { origin < self.old.nodes }
-        requires number { number < 1_000_000 }
+        requires number { number < MOST_EVENTS }
         requires later { count_at self.old origin ≤ number }
         ensures kept { OnOk result (KeepsFirst self.old self.new origin number b) }
         ensures err { OnErr result (self.new ≡ self.old) }
@@ -139,12 +140,12 @@ impl GossipCore {
     pub fn wants(&self, origin: NodeId) -> u32
         ensures { IsFirstMissing self.now origin result }
     {
-        for number in self.cut.at(origin)..1_000_000 {
+        for number in self.cut.at(origin)..MOST_EVENTS {
             if !self.kept.contains_key(&(origin, number)) {
                 return number;
             }
         }
-        1_000_000
+        MOST_EVENTS
     }
 }
 

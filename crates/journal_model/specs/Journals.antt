@@ -17,6 +17,7 @@ use Rattle.journal_model.specs.Limits.{limit_passed}
 use Rattle.journal_model.specs.Lines.{header_line, lines_of}
 use Rattle.journal_model.specs.Reading.{read_line}
 use Rattle.journal_model.specs.Report.{stopped_total, verdict_lines}
+use Rattle.crgc_ids.specs.declared.limits.TheConstants.{MOST_BYTES}
 
 -- what is wrong with a line of a journal
 pub data Fault : Type 0 where
@@ -112,4 +113,4 @@ journal_lines (first ∷ rest) = after_header (header_of first) rest
 -- the history that the text tells, or its first faulty line, counted from 1, and what is wrong with it; a text that is too long
 -- is at fault as a whole, at line 0
 abbrev pub journal_of : List ℕ → Result Story (ℕ × Fault)
-journal_of text = if nat_lt 16777216 (length text) then Err (0, limit Input) else journal_lines (lines_of text)
+journal_of text = if nat_lt MOST_BYTES (length text) then Err (0, limit Input) else journal_lines (lines_of text)

@@ -8,6 +8,7 @@ use Rattle.history_model.specs.Cluster.{Cluster, births}
 use Rattle.history_model.specs.Facts.{Fact}
 use Rattle.history_model.specs.Streams.{queue, window}
 use Rattle.history_model.specs.Graph.{named_by, rising_actors}
+use Rattle.crgc_ids.specs.declared.limits.TheConstants.{MOST_ACTORS, MOST_EVENTS, MOST_NAMED}
 
 -- how many different actors the facts name
 abbrev pub named_count : List Fact → ℕ
@@ -15,15 +16,15 @@ named_count facts = length (rising_actors (flat_map named_by facts))
 
 -- the event gives birth to an actor beyond the greatest serial
 abbrev pub passes_actors : Event → List Event → Bool
-passes_actors (Seed n) h = nat_le 262144 (births n h)
-passes_actors (Spawn a) h = nat_le 262144 (births a.node h)
+passes_actors (Seed n) h = nat_le MOST_ACTORS (births n h)
+passes_actors (Spawn a) h = nat_le MOST_ACTORS (births a.node h)
 passes_actors _ h = false
 
 -- the bulletin that the event makes would name more than 200,000 actors
 abbrev pub passes_delta : Cluster → Event → List Event → Bool
-passes_delta cl (Publish n) h = nat_lt 200000 (named_count (queue cl n h))
-passes_delta cl (Window d s) h = nat_lt 200000 (named_count (window s d h))
-passes_delta cl (Remove d s) h = nat_lt 200000 (named_count (window s d h))
+passes_delta cl (Publish n) h = nat_lt MOST_NAMED (named_count (queue cl n h))
+passes_delta cl (Window d s) h = nat_lt MOST_NAMED (named_count (window s d h))
+passes_delta cl (Remove d s) h = nat_lt MOST_NAMED (named_count (window s d h))
 passes_delta cl _ h = false
 
 -- the limit that the event would pass
@@ -31,5 +32,5 @@ abbrev pub limit_passed : Cluster → Event → List Event → Option Which
 limit_passed cl e h =
     if passes_actors e h then Some Actors
     else if passes_delta cl e h then Some Delta
-    else if nat_le 1000000 (length h) then Some Events
+    else if nat_le MOST_EVENTS (length h) then Some Events
     else None

@@ -7,13 +7,14 @@ ghost use Rattle.journal_model.specs.Journals.{Replay, after_lines, journal_of};
 ghost use Rattle.journal_model.specs.Lines.{lines_of};
 ghost use Rattle.journal_model.specs.Verdicts.{report_text};
 ghost use Rattle.journal_player.specs.Faults.{IsPlayFault};
+ghost use Rattle.crgc_ids.specs.declared.limits.TheConstants.{MOST_BYTES};
 
 use crate::fault::{Cause, PlayFault};
 use crate::header::read_header;
 use crate::lines::next_line;
 use crate::player::Player;
 use cluster_course::laws::a_legal_history_is_rightly_collected;
-use crgc_ids::Which;
+use crgc_ids::{MOST_BYTES, Which};
 use std::alloc::Global;
 
 const NO_HEADER: PlayFault = PlayFault::Journal {
@@ -28,7 +29,7 @@ pub fn play(alloc: Global, text: &[u8], brief: bool) -> Result<Vec<u8>, PlayFaul
         × (bytes.items ≡ report_text s.cluster s.past brief)) }
     ensures fault { IfErr result (λ f. IsPlayFault f (journal_of text.now)) }
 {
-    if text.len() > 16_777_216 {
+    if text.len() > MOST_BYTES {
         return Err(PlayFault::Limit(Which::Input));
     }
     let Some((first, rest)) = next_line(text) else {
@@ -49,7 +50,7 @@ fn report_of(
     text: &[u8],
     brief: bool,
 ) -> Result<Vec<u8>, PlayFault>
-    requires { length text.now ≤ 16777216 }
+    requires { length text.now ≤ MOST_BYTES }
     ensures report { IfOk result (λ bytes. (r : Replay) × (after_lines player.old.cluster 2 player.old.replay (lines_of text.now) ≡ Ok r)
         × IsLegal player.old.cluster r.past × (bytes.items ≡ report_text player.old.cluster r.past brief)) }
     ensures fault { IfErr result (λ f. IsPlayFault f (after_lines player.old.cluster 2 player.old.replay (lines_of text.now))) }
@@ -62,7 +63,7 @@ fn report_of(
 
 /// All lines of the text are followed, of which the first is line 2, or the answer is the first fault.
 fn follow_all(alloc: Global, player: &mut Player, text: &[u8]) -> Result<(), PlayFault>
-    requires { length text.now ≤ 16777216 }
+    requires { length text.now ≤ MOST_BYTES }
     ensures cluster { player.new.cluster ≡ player.old.cluster }
     ensures ok { OnOk result (after_lines player.old.cluster 2 player.old.replay (lines_of text.now) ≡ Ok player.new.replay) }
     ensures fault { IfErr result (λ f. IsPlayFault f (after_lines player.old.cluster 2 player.old.replay (lines_of text.now))) }

@@ -3,6 +3,7 @@ use Rattle.std.specs.Prelude.{◌≡◌, ◌≤◌, ◌==◌, ◌&&◌, if◌the
 use Rattle.crgc_ids.specs.Actor.{Actor, same_actor}
 use Rattle.ready_actors.specs.Ready.{has_actor}
 use Rattle.actor_states.specs.State.{State, blank_state, has_news}
+use Rattle.crgc_ids.specs.declared.limits.TheConstants.{MOST_ACTORS}
 
 -- whether the actor was born on the node, and its log or its flags have something to tell
 abbrev pub is_due_among : ℕ → List State → Actor → Bool
@@ -11,7 +12,7 @@ is_due_among number actors a =
 
 -- the numbers of busy and of stopped actors, and the set of those whose flush is due
 pub record IsKept (number : ℕ) (up : Bool) (busy stopped : ℕ) (actors : List State) (due : List Actor) : Type 0 where
-  pub few : length actors ≤ 262144
+  pub few : length actors ≤ MOST_ACTORS
   pub busy_ones : busy ≡ (if up then count_by (λ s. s.busy) actors else 0)
   pub stopped_ones : stopped ≡ count_by (λ s. s.stopped) actors
   pub due_ones : (a : Actor) → has_actor due a ≡ is_due_among number actors a

@@ -12,6 +12,7 @@ ghost use Rattle.actor_states.specs.State.{flags_of, has_news, is_this, noting, 
 ghost use Rattle.node_actors.specs.Keeping.{IsSettled};
 ghost use Rattle.node_actors.specs.Node.{AreAlike, Bears, ChangesIn, IsNextDue, IsThere, KeepsNode, NobodyIsDue, Spawns};
 ghost use Rattle.node_actors.specs.Node.{blank_node, busy_in, next_actor, state_in};
+ghost use Rattle.crgc_ids.specs.declared.limits.TheConstants.{MOST_ACTORS};
 
 use actor_states::ActorState;
 use crgc_ids::{ActorId, NoMemory, NodeId};
@@ -78,7 +79,7 @@ impl NodeActors {
     /// How many are busy, while the node is up.
     pub fn busy_count(&self) -> u32
         ensures number { result ≡ busy_in self.now }
-        ensures in_range { result ≤ 262144 }
+        ensures in_range { result ≤ MOST_ACTORS }
     {
         self.busy
     }
@@ -161,7 +162,7 @@ impl NodeActors {
 
     /// The next actor is born, by seed. After `NoMemory` all is as before. Amortized logarithmic time in the number of actors.
     pub fn seed(&mut self) -> Result<ActorId, NoMemory>
-        requires { length self.old.actors < 262144 }
+        requires { length self.old.actors < MOST_ACTORS }
         ensures actor { IfOk result (λ a. a ≡ next_actor self.old) }
         ensures ok { OnOk result (Bears self.old self.new (λ s. IsSeed s (next_actor self.old))) }
         ensures err { OnErr result (self.new ≡ self.old) }
@@ -176,7 +177,7 @@ impl NodeActors {
     /// `NoMemory` all is as before. Amortized logarithmic time in the number of actors and of the parent's targets.
     pub fn spawn(&mut self, parent: ActorId, supervised: bool) -> Result<ActorId, NoMemory>
         requires there { IsThere self.old parent }
-        requires room { length self.old.actors < 262144 }
+        requires room { length self.old.actors < MOST_ACTORS }
         requires fits { HasRoom (state_in self.old parent.serial) 1 }
         ensures actor { IfOk result (λ a. a ≡ next_actor self.old) }
         ensures ok { OnOk result (Spawns self.old self.new parent supervised) }
@@ -194,7 +195,7 @@ impl NodeActors {
 
     /// The actor that the next birth gives.
     fn next_actor(&self) -> ActorId
-        requires { length self.now.actors < 262144 }
+        requires { length self.now.actors < MOST_ACTORS }
         ensures { result ≡ next_actor self.now }
     {
         ActorId::new(self.node, self.actors.len() as u32).unwrap()
@@ -203,7 +204,7 @@ impl NodeActors {
     /// The next actor has this state, which is that of an idle one that was not stopped. After `NoMemory` all is as before.
     fn enter(&mut self, actor: ActorId, state: ActorState) -> Result<(), NoMemory>
         requires next { actor ≡ next_actor self.old }
-        requires room { length self.old.actors < 262144 }
+        requires room { length self.old.actors < MOST_ACTORS }
         requires idle { (state.busy ≡ false) × (state.stopped ≡ false) }
         requires news { has_news state ≡ true }
         ensures ok { OnOk result (Bears self.old self.new (λ s. s ≡ state)) }

@@ -6,7 +6,7 @@ ghost use Rattle.history_model.specs.State.{is_busy, is_root};
 ghost use Rattle.quiet_check.specs.Plain.{owners, owners_by};
 
 use crate::constants::is_same;
-use crgc_ids::{ActorId, NodeId};
+use crgc_ids::{ActorId, MOST_ACTORS, NodeId};
 use history_model::Event;
 use std::alloc::{AllocError, Global};
 
@@ -54,7 +54,7 @@ fn next_born(events: &[Event], node: NodeId) -> Result<ActorId, AllocError>
     ensures { IfOk result (λ a. a ≡ newborn node (reverse events.now)) }
 {
     let serial = births_on(events, node);
-    if serial >= 262_144 {
+    if serial >= MOST_ACTORS as usize {
         return Err(AllocError);
     }
     ActorId::new(node, serial as u32).ok_or(AllocError)

@@ -5,6 +5,7 @@ use Rattle.history_model.specs.Cluster.{Cluster}
 use Rattle.history_model.specs.Legal.{IsLegal}
 use Rattle.journal_model.specs.Lines.{AreWithinRanges}
 use Rattle.run_model.specs.Schedule.{IsWithinLimits}
+use Rattle.crgc_ids.specs.declared.limits.TheConstants.{MOST_BYTES}
 
 -- the cluster has 1 to 16 nodes, and its version is 1 or 2
 pub record IsClusterInRange (cl : Cluster) : Type 0 where
@@ -22,4 +23,4 @@ pub record IsTellable (cl : Cluster) (h : List Event) : Type 0 where
 
 -- the text is no longer than the input limit
 abbrev pub IsWithinInput : List ℕ → Type 0
-IsWithinInput text = length text ≤ 16777216
+IsWithinInput text = length text ≤ MOST_BYTES

@@ -9,6 +9,7 @@ ghost use Rattle.actor_states.specs.State.{Drops, Flushes, Gains, HasRoom, Sends
 ghost use Rattle.node_actors.specs.Node.{blank_node};
 ghost use Rattle.roster.specs.Table.{Changes, Crashes, IsAsBefore, IsHere, IsNextFlush, NobodyIsFlushed, Seeds, SpawnsFrom};
 ghost use Rattle.roster.specs.Table.{Stops, Ties, births_in, busy_total, next_on, node_in, state_at, stopped_in, up_in};
+ghost use Rattle.crgc_ids.specs.declared.limits.TheConstants.{MOST_ACTORS};
 
 use crgc_ids::{ActorId, NoMemory, NodeId};
 use history_model::{Entry, Stop};
@@ -179,7 +180,7 @@ impl Roster {
     /// the node's actors.
     pub fn seed(&mut self, node: NodeId) -> Result<ActorId, NoMemory>
         requires node { node < length self.old.nodes }
-        requires room { births_in self.old node < 262144 }
+        requires room { births_in self.old node < MOST_ACTORS }
         ensures actor { IfOk result (λ a. a ≡ next_on self.old node) }
         ensures ok { OnOk result (Seeds self.old self.new node) }
         ensures err { OnErr result (IsAsBefore self.old self.new) }
@@ -192,7 +193,7 @@ impl Roster {
     /// actors and of the parent's targets.
     pub fn spawn(&mut self, parent: ActorId) -> Result<ActorId, NoMemory>
         requires here { IsHere self.old parent }
-        requires room { births_in self.old parent.node < 262144 }
+        requires room { births_in self.old parent.node < MOST_ACTORS }
         requires fits { HasRoom (state_at self.old parent) 1 }
         ensures actor { IfOk result (λ a. a ≡ next_on self.old parent.node) }
         ensures ok { OnOk result (SpawnsFrom self.old self.new parent) }

@@ -3,6 +3,7 @@ use Rattle.std.specs.Prelude.{ℕ, ◌+◌, ◌*◌}
 use Rattle.std.specs.Ordering.{nat_cmp, ordering_then}
 use Rattle.std.specs.declared.cmp.Ordering.{Ordering}
 use Rattle.crgc_ids.specs.Actor.{Actor}
+use Rattle.crgc_ids.specs.declared.limits.TheConstants.{MOST_ACTORS}
 
 -- actors are compared by node, then by serial
 abbrev pub compare_actors : Actor → Actor → Ordering
@@ -14,7 +15,7 @@ compare_pairs p q = ordering_then (compare_actors p.0 q.0) (compare_actors p.1 q
 
 -- the number of an actor among all of 16 nodes with 262,144 serials each
 abbrev pub rank : Actor → ℕ
-rank a = 262144 * a.node + a.serial
+rank a = MOST_ACTORS * a.node + a.serial
 
 -- the number of a pair among all pairs
 abbrev pub pair_rank : Actor → Actor → ℕ

@@ -3,7 +3,7 @@ ghost use Rattle.std.specs.Prelude.{◌≡◌};
 ghost use Rattle.crgc_ids.specs.Actor.{IsActor};
 ghost use Rattle.row_sums.specs.Orders as orders;
 
-use crgc_ids::{ActorCount, ActorId, PairCount};
+use crgc_ids::{ActorCount, ActorId, MOST_ACTORS, PairCount};
 use std::cmp::Ordering;
 
 /// The number of an actor among all of 16 nodes with 262,144 serials each.
@@ -11,7 +11,7 @@ fn rank(actor: ActorId) -> u64
     ensures value { result ≡ orders.rank actor }
     ensures actor { IsActor actor }
 {
-    262_144 * actor.node().get() as u64 + actor.serial() as u64
+    u64::from(MOST_ACTORS) * actor.node().get() as u64 + actor.serial() as u64
 }
 
 /// Actors by node, then by serial: what `cmp` answers, by one comparison.

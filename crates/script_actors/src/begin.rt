@@ -8,6 +8,7 @@ ghost use Rattle.run_model.specs.Doing.{beginning, own_name, seed_actors};
 ghost use Rattle.script_actors.specs.Begun.{Binds, IsBegun};
 ghost use Rattle.script_actors.specs.Table.{AddsRow, names_at, next_on, row, rows_on};
 ghost use Rattle.script_actors.specs.Standing.{AreActorsAt};
+ghost use Rattle.crgc_ids.specs.declared.limits.TheConstants.{MOST_ACTORS};
 
 use crate::actors::ScriptActors;
 use crate::rows::{NodeRows, Row};
@@ -61,7 +62,7 @@ impl ScriptActors {
     // The next actor of the node is born.
     pub(crate) fn add_seed(&mut self, node: NodeId, behaviour: u32) -> Result<ActorId, NoMemory>
         requires node { node < length self.old }
-        requires room { length (rows_on self.old node) < 262144 }
+        requires room { length (rows_on self.old node) < MOST_ACTORS }
         ensures actor { IfOk result (λ a. a ≡ next_on self.old node) }
         ensures ok { OnOk result ((names : List (List ℕ × Actor)) × (local_names names ≡ own_name (next_on self.old node))
             × AddsRow self.old self.new (next_on self.old node) (row behaviour (Some names))) }
@@ -74,7 +75,7 @@ impl ScriptActors {
     // The actor that is born next on the node.
     pub(crate) fn next_actor(&self, node: NodeId) -> ActorId
         requires node { node < length self.now }
-        requires room { length (rows_on self.now node) < 262144 }
+        requires room { length (rows_on self.now node) < MOST_ACTORS }
         ensures { result ≡ next_on self.now node }
     {
         let serial = self.nodes[node.get() as usize].len();

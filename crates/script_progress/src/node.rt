@@ -1,6 +1,7 @@
 //! The turns and wakes of one node.
 ghost use Rattle.std.specs.Prelude.{ℕ, ◌≡◌, ◌+◌, ◌-◌, ◌<◌, ◌≤◌, ◌^◌, ◌++◌, ◌∷◌, [], get_or, length, slice_set, IfNone, IfSome, OnErr, OnOk};
 ghost use Rattle.script_progress.specs.Used.{unused};
+ghost use Rattle.crgc_ids.specs.declared.limits.TheConstants.{MOST_ACTORS};
 
 use crgc_ids::NoMemory;
 use std::alloc::Global;
@@ -16,13 +17,14 @@ pub struct NodeProgress {
 
 impl Model for NodeProgress {
     ghost use Rattle.std.specs.Prelude.{◌≤◌, length};
+    ghost use Rattle.crgc_ids.specs.declared.limits.TheConstants.{MOST_ACTORS};
     ghost use Rattle.script_progress.specs.Used.{NodeUsed};
 
     ghost Value = { NodeUsed };
 
     ghost view = { λ n. record { ended = n.ended; wakes = n.wakes.items } };
 
-    ghost invariant = { λ n. length n.wakes.items ≤ 262144 };
+    ghost invariant = { λ n. length n.wakes.items ≤ MOST_ACTORS };
 }
 
 impl NodeProgress {
@@ -38,7 +40,7 @@ impl NodeProgress {
 
     /// The next seed has so many wakes. After `NoMemory` all is as before.
     pub fn push(&mut self, wakes: u32) -> Result<(), NoMemory>
-        requires { length self.old.wakes < 262144 }
+        requires { length self.old.wakes < MOST_ACTORS }
         ensures ok { OnOk result (self.new ≡ record self.old { wakes = self.old.wakes ++ wakes ∷ [] }) }
         ensures err { OnErr result (self.new ≡ self.old) }
     {
@@ -70,7 +72,7 @@ impl NodeProgress {
         ensures from { IfSome result (λ i. from ≤ i) }
         ensures left { IfSome result (λ i. 0 < get_or self.now.wakes i 0) }
         ensures passed { IfSome result (λ i. (k : ℕ) → from ≤ k → k < i → get_or self.now.wakes k 0 ≡ 0) }
-        ensures in_range { IfSome result (λ i. i < 262144) }
+        ensures in_range { IfSome result (λ i. i < MOST_ACTORS) }
         ensures none { IfNone result ((k : ℕ) → from ≤ k → get_or self.now.wakes k 0 ≡ 0) }
     {
         for i in from..self.wakes.len() {

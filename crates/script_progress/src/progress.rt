@@ -10,6 +10,7 @@ ghost use Rattle.script_reader.specs.Valid.{Scripted};
 ghost use Rattle.run_model.specs.Planned.{carry, crash_due, ended, has_row, is_within_budget, wakes_left};
 ghost use Rattle.script_progress.specs.Used.{AreAllPassed, ArePassed, Ends, HasRoom, IsFrom, Wakes, carried, carry_in, IsFirstPlanned, IsNextPlanned, crashes_next, ended_in, is_crash_due, wakes_in, with_turn};
 ghost use Rattle.script_progress.specs.Standing.{IsProgressAt, can_wake};
+ghost use Rattle.crgc_ids.specs.declared.limits.TheConstants.{MOST_ACTORS};
 
 use crate::carry::Carry;
 use crate::node::NodeProgress;
@@ -274,7 +275,7 @@ impl Progress {
 /// The actor with this serial on the node.
 fn seed_at(node: usize, serial: usize) -> ActorId
     requires node { node < 16 }
-    requires serial { serial < 262144 }
+    requires serial { serial < MOST_ACTORS }
     ensures { result ≡ record { node = node; serial = serial } }
 {
     ActorId::new(NodeId::new(node as u8).unwrap(), serial as u32).unwrap()

@@ -12,6 +12,7 @@ use Rattle.undo_log.specs.declared.corrections.Correction.{Correction}
 use Rattle.shadow_rows.specs.Rows.{IsLogCovered}
 use Rattle.shadow_rows.specs.Pairs.{edge_between}
 use Rattle.shadow_rows.specs.Tabled.{AreTabled}
+use Rattle.crgc_ids.specs.declared.limits.TheConstants.{MOST_EVENTS}
 
 -- each bulletin counts something less than 2^32 times, and each node's corrections less than 2^56 times
 pub record AreWithin (folded lost : ℕ) (shadows : Shadows) (edges : Edges) (log : List (List Correction)) : Type 0 where
@@ -33,6 +34,6 @@ pub record IsKept (shadows : Shadows) (edges : Edges) (log : List (List Correcti
   pub covered : IsLogCovered shadows edges log
   pub within : AreWithin (sum_by (λ k. k) cut) (lost_count lost) shadows edges log
   pub by_finals : lost ≡ lost_nodes finals.nodes (links_of finals)
-  pub counts : AllByRecursion (λ k. k ≤ 1000000) cut
+  pub counts : AllByRecursion (λ k. k ≤ MOST_EVENTS) cut
   pub long : length cut ≡ 16
   pub few : finals.nodes ≤ 16

@@ -12,6 +12,7 @@ ghost use Rattle.shadow_graph.specs.Places.{ArePlaced};
 ghost use Rattle.shadow_graph.specs.Seen.{Drops, is_dropped, is_known, seen_edge, seen_shadow};
 ghost use Rattle.shadow_graph.specs.Stands.{IsGraphOf};
 ghost use Rattle.shadow_graph.specs.Taken.{ClosesLink, FoldsIn, IsLinked, TakesIn};
+ghost use Rattle.crgc_ids.specs.declared.limits.TheConstants.{MOST_EVENTS};
 
 mod by_place;
 mod known;
@@ -90,7 +91,7 @@ impl ShadowGraph {
         requires of_origin { origin_of b.now ≡ origin }
         requires in_range { origin < self.old.finals.nodes }
         requires linked { IsLinked self.old.finals.nodes b.now }
-        requires fewer { slice_index self.old.cut origin < 1000000 }
+        requires fewer { slice_index self.old.cut origin < MOST_EVENTS }
         ensures ok { OnOk result (FoldsIn origin b.now self.old self.new) }
         ensures err { OnErr result (self.new ≡ self.old) }
     {
@@ -235,7 +236,7 @@ impl ShadowGraph {
     /// rows, and logarithmic in the number of edges for each.
     fn take_delta(&mut self, delta: &Delta) -> Result<(), NoMemory>
         requires in_range { delta.now.node < 16 }
-        requires fewer { slice_index self.old.cut delta.now.node < 1000000 }
+        requires fewer { slice_index self.old.cut delta.now.node < MOST_EVENTS }
         ensures ok { OnOk result (TakesIn delta.now.node (bulletins.Delta delta.now) self.old self.new) }
         ensures finals { self.new.finals ≡ self.old.finals }
         ensures err { OnErr result (self.new ≡ self.old) }
@@ -264,7 +265,7 @@ impl ShadowGraph {
     /// rows, and logarithmic in the number of edges for each.
     fn take_window(&mut self, window: &Window) -> Result<(), NoMemory>
         requires in_range { window.now.at < 16 }
-        requires fewer { slice_index self.old.cut window.now.at < 1000000 }
+        requires fewer { slice_index self.old.cut window.now.at < MOST_EVENTS }
         ensures ok { OnOk result (TakesIn window.now.at (bulletins.Window window.now) self.old self.new) }
         ensures ok_final { OnOk result (TakesIn window.now.at (bulletins.Final window.now) self.old self.new) }
         ensures finals { self.new.finals ≡ self.old.finals }
@@ -296,7 +297,7 @@ impl ShadowGraph {
         requires from { window.now.from < self.old.finals.nodes }
         requires differ { window.now.from ≢ window.now.at }
         requires in_range { window.now.at < 16 }
-        requires fewer { slice_index self.old.cut window.now.at < 1000000 }
+        requires fewer { slice_index self.old.cut window.now.at < MOST_EVENTS }
         ensures ok { OnOk result (FoldsIn window.now.at (bulletins.Final window.now) self.old self.new) }
         ensures err { OnErr result (self.new ≡ self.old) }
     {

@@ -7,6 +7,7 @@ use Rattle.link_table.specs.Piled.{copies_in}
 use Rattle.link_table.specs.Table.{IsLink}
 use Rattle.traffic.specs.Loads.{live_in}
 use Rattle.traffic.specs.TrafficState.{TrafficState, link_of, message_on, pile_on}
+use Rattle.crgc_ids.specs.declared.limits.TheConstants.{MOST_EVENTS}
 
 -- each message that was sent carries at most 16 references
 abbrev pub CarriesFew : List Event → Type 0
@@ -16,7 +17,7 @@ CarriesFew (_ ∷ p) = CarriesFew p
 
 -- so, and it has at most 1,000,000 events
 abbrev pub IsSmall : List Event → Type 0
-IsSmall h = (length h ≤ 1000000) × CarriesFew h
+IsSmall h = (length h ≤ MOST_EVENTS) × CarriesFew h
 
 -- one message more fits on each link, and at each node
 abbrev pub SentFits : TrafficState → Type 0

@@ -4,10 +4,11 @@ ghost use Rattle.history_model.specs.Legal.{refusal};
 ghost use Rattle.history_model.specs.Streams.{queue, window};
 ghost use Rattle.journal_model.specs.Limits.{limit_passed, named_count, passes_actors, passes_delta};
 ghost use Rattle.true_config.specs.Applying.{hindrance};
+ghost use Rattle.crgc_ids.specs.declared.limits.TheConstants.{MOST_NAMED};
 
 use crate::World;
 use crate::applied::Applied;
-use crgc_ids::{NoMemory, NodeId, Which};
+use crgc_ids::{MOST_ACTORS, MOST_EVENTS, MOST_NAMED, NoMemory, NodeId, Which};
 use event_rules::refusal;
 use history_model::{Event, Rule};
 
@@ -51,7 +52,7 @@ impl World {
         if over {
             return Ok(Some(Which::Delta));
         }
-        if self.history.len() >= 1_000_000 {
+        if self.history.len() >= MOST_EVENTS as usize {
             return Ok(Some(Which::Events));
         }
         Ok(None)
@@ -62,8 +63,8 @@ impl World {
         ensures { result ≡ passes_actors event.now self.now.past }
     {
         match event {
-            Event::Seed { node } => self.born(*node) >= 262144,
-            Event::Spawn { parent } => self.born(parent.node()) >= 262144,
+            Event::Seed { node } => self.born(*node) >= MOST_ACTORS,
+            Event::Spawn { parent } => self.born(parent.node()) >= MOST_ACTORS,
             _ => false,
         }
     }
@@ -84,14 +85,14 @@ impl World {
     /// Whether the next window of the link would name too many actors.
     fn window_names_too_many(&self, from: NodeId, at: NodeId) -> bool
         requires { from ≢ at }
-        ensures { result ≡ nat_lt 200000 (named_count (window from at self.now.past)) }
+        ensures { result ≡ nat_lt MOST_NAMED (named_count (window from at self.now.past)) }
     {
-        self.traffic.named(from, at) > 200_000
+        self.traffic.named(from, at) > MOST_NAMED
     }
 
     /// Whether the next Delta of the node would name too many actors.
     pub(crate) fn queue_names_too_many(&self, node: NodeId) -> Result<bool, NoMemory>
-        ensures { IfOk result (λ over. over ≡ nat_lt 200000 (named_count (queue self.now.cluster node self.now.past))) }
+        ensures { IfOk result (λ over. over ≡ nat_lt MOST_NAMED (named_count (queue self.now.cluster node self.now.past))) }
     {
         self.streams.names_too_many(node)
     }

@@ -4,10 +4,11 @@ ghost use Rattle.history_model.specs.declared.events.Event.TheVariants as events
 ghost use Rattle.history_model.specs.Legal.{refusal};
 ghost use Rattle.true_config.specs.Applying.{OnDone, UnlessDone, answer_to};
 ghost use Rattle.true_config.specs.Steps.{Adds};
+ghost use Rattle.crgc_ids.specs.declared.limits.TheConstants.{MOST_EVENTS};
 
 use crate::World;
 use crate::applied::{Applied, Told};
-use crgc_ids::{NoMemory, NodeId, Which};
+use crgc_ids::{MOST_EVENTS, NoMemory, NodeId, Which};
 use delta_graph::DeltaFault;
 use history_model::Event;
 
@@ -22,7 +23,7 @@ impl World {
         if let Some(rule) = self.refusal(&Event::Publish { node }) {
             return Ok(Applied::Illegal(rule));
         }
-        if self.history.len() < 1_000_000 {
+        if self.history.len() < MOST_EVENTS as usize {
             return self.publish(node);
         }
         match self.queue_names_too_many(node) {
@@ -36,7 +37,7 @@ impl World {
     /// all is as before.
     fn publish(&mut self, node: NodeId) -> Result<Applied, NoMemory>
         requires legal { refusal self.old.cluster (events.Publish node) self.old.past ≡ None }
-        requires room { length self.old.past < 1000000 }
+        requires room { length self.old.past < MOST_EVENTS }
         ensures answer { IfOk result (λ x. x ≡ answer_to self.old.cluster (events.Publish node) self.old.past) }
         ensures done { OnDone result (Adds (events.Publish node) self.old self.new) }
         ensures unless { UnlessDone result (self.new ≡ self.old) }

@@ -15,12 +15,13 @@ use Rattle.wire_grammar.specs.declared.fault.WireKind.TheVariants.{Magic, Kind, 
 use Rattle.wire_grammar.specs.Fields.{◌>>=◌, Reader, both, checked, fault, is_above, made, number_at, rows_at}
 use Rattle.wire_grammar.specs.Named.{delta_names, window_names}
 use Rattle.wire_grammar.specs.Spelling.{index_len, magic}
+use Rattle.crgc_ids.specs.declared.limits.TheConstants.{MOST_ACTORS}
 
 abbrev pub node_at : Reader ℕ
 node_at p = checked Node (λ n. nat_lt n 16) (number_at 1) p
 
 abbrev pub serial_at : Reader ℕ
-serial_at p = checked Node (λ n. nat_lt n 262144) (number_at 4) p
+serial_at p = checked Node (λ n. nat_lt n MOST_ACTORS) (number_at 4) p
 
 abbrev pub actor_at : Reader Actor
 actor_at p = made (λ x. record { node = x.0; serial = x.1 }) (both node_at (λ _. serial_at)) p
