@@ -10,3 +10,4 @@ pub mod GoneLemmas
 pub mod LeftLemmas
 pub mod DropLemmas
 pub mod EndLemmas
+pub mod RoundLemmas

@@ -10,17 +10,20 @@ ghost use Rattle.collector.specs.Refusals.{IsFit, IsRefusal, read_as};
 ghost use Rattle.collector.specs.Sweeping.{Compacts, Finds, SetsFlags, Sweeps};
 ghost use Rattle.collector.specs.Taking.{Folds, IsAnswer, IsTaken, Keeps, LeavesAsWas, Takes};
 ghost use Rattle.collector.specs.Traced.{DropsAll, HaveFallen, TakesSome};
+ghost use Rattle.crgc_ids.specs.declared.limits.TheConstants.{MOST_EVENTS};
 
 use crate::read::{TakeFault, read_whole};
+use crate::rounds::find_stops_in_rounds;
 use crate::stopped::{make_room, set_all};
 use crate::stops::{find_stopped, stops_of};
 use crgc_ids::{ActorId, Cut, NoMemory, NodeId};
 use gossip_core::GossipCore;
 use history_model::{Bulletin, StopList, Verdict};
-use pseudoroot_trace::TracedGraph;
+use pseudoroot_trace::{Marks, TracedGraph};
 use shadow_graph::ShadowGraph;
 use std::alloc::Global;
 use std::marker::Model;
+use std::thread::Threads;
 
 /// What became of a bulletin: so many were folded in this call, from 1; none was, and its number is above the cut of its
 /// origin; none was, and its number is below it.
@@ -32,7 +35,7 @@ pub enum Taken {
 }
 
 /// The collector of one node. It knows nothing but the bulletins that it was given. It keeps its allocator, the marks of its last
-/// sweep, and whom it stopped and did not drop yet. Contracts see its node, the bulletins that wait and the cut, the shadow
+/// sweep, room for marks in rounds, and whom it stopped and did not drop yet. Contracts see its node, the bulletins that wait and the cut, the shadow
 /// graph, and whom it stopped.
 #[derive(Drop)]
 pub struct Collector {
@@ -43,6 +46,7 @@ pub struct Collector {
     graph: TracedGraph,
     stopped: Vec<bool>,
     gone: Vec<ActorId>,
+    marks: Marks,
 }
 
 impl Model for Collector {
@@ -79,6 +83,7 @@ impl Collector {
             graph: TracedGraph::new(alloc, nodes),
             stopped: Vec::new(alloc),
             gone: Vec::new(alloc),
+            marks: Marks::new(alloc),
         })
     }
 
@@ -132,7 +137,7 @@ impl Collector {
     /// kept, and some that were ready folded. Time in proportion to the bytes, and to what the folded bulletins take.
     pub fn take(&mut self, origin: NodeId, number: u32, bytes: &[u8]) -> Result<Taken, TakeFault>
         requires origin { origin < node_count self.old }
-        requires number { number < 1_000_000 }
+        requires number { number < MOST_EVENTS }
         ensures answer { IfOk result (λ taken. IsAnswer origin number self.old self.new taken) }
         ensures taken { OnOk result (IsTaken origin number self.new) }
         ensures read { OnOk result ((b : Bulletin) × (read_as (node_count self.old) origin bytes.now ≡ Ok b)) }
@@ -169,7 +174,7 @@ impl Collector {
     /// The bulletin waits, unless one of its number was taken before. After `NoMemory` all is as before.
     fn keep(&mut self, origin: NodeId, number: u32, b: Bulletin) -> Result<(), NoMemory>
         requires origin { origin < node_count self.old }
-        requires number { number < 1_000_000 }
+        requires number { number < MOST_EVENTS }
         requires fits { IsFit (node_count self.old) origin b }
         ensures ok { OnOk result (Keeps self.old self.new origin number b) }
         ensures err { OnErr result (self.new ≡ self.old) }
@@ -233,6 +238,42 @@ impl Collector {
             node: self.node,
             cut: self.order.cut(),
             lost: self.graph.graph().lost(),
+            stops,
+        })
+    }
+
+    /// The verdict that `sweep` gives, by marks that are made anew, in rounds: in each a thread for each of so many parts of the
+    /// graph, where one can be made, marks its actors by the marks of the round before. After `NoMemory` all is as before. A round
+    /// takes linear time in the graph, shared by the threads, on average; there are at most as many rounds as actors, and one. The
+    /// marks of the last `sweep` stay for the next one.
+    pub fn sweep_rounds<R: Threads + Sync>(
+        &mut self,
+        rt: &R,
+        parts: u32,
+    ) -> Result<Verdict, NoMemory>
+        requires settled { IsSettled self.old }
+        requires some { 1 ≤ parts }
+        requires in_range { parts ≤ 32 }
+        ensures ok { IfOk result (Sweeps self.old self.new) }
+        ensures err { OnErr result (self.new ≡ self.old) }
+    {
+        let stopped = self.stopped.as_slice();
+        let (found, stops) = find_stops_in_rounds(
+            rt,
+            self.alloc,
+            self.graph.graph(),
+            &mut self.marks,
+            self.node,
+            stopped,
+            parts,
+        )?;
+        let actors = found.as_slice();
+        remember(&mut self.stopped, &mut self.gone, actors)?;
+        let lost = self.graph.graph().lost();
+        Ok(Verdict {
+            node: self.node,
+            cut: self.order.cut(),
+            lost,
             stops,
         })
     }

@@ -4,6 +4,7 @@
 mod collector;
 pub mod laws;
 mod read;
+mod rounds;
 mod stopped;
 mod stops;
 

@@ -76,7 +76,7 @@ fn push_if_falls(
         return Ok(());
     }
     let actor = actor_at(shadows, place);
-    if !falls(graph, node, stopped, actor) {
+    if !falls(shadows, graph.is_marked(actor), node, stopped, actor) {
         return Ok(());
     }
     match found.push(actor) {
@@ -86,25 +86,31 @@ fn push_if_falls(
 }
 
 /// The actor at the place.
-fn actor_at(graph: &ShadowGraph, place: u32) -> ActorId
+pub fn actor_at(graph: &ShadowGraph, place: u32) -> ActorId
     requires { place < length graph.now.shadows.names }
     ensures { result ≡ actor_of graph.now place }
 {
     graph.actor_at(place).unwrap()
 }
 
-/// Whether the sweep stops the actor. Constant time on average.
-fn falls(graph: &TracedGraph, node: NodeId, stopped: &[bool], actor: ActorId) -> bool
-    ensures { result ≡ falls graph.now.graph (is_marked_in graph.now) node stopped.now actor }
+/// Whether a sweep that leaves the actor so marked stops it. Constant time on average.
+pub fn falls(
+    graph: &ShadowGraph,
+    is_marked: bool,
+    node: NodeId,
+    stopped: &[bool],
+    actor: ActorId,
+) -> bool
+    ensures { result ≡ falls graph.now (λ a. is_marked) node stopped.now actor }
 {
-    actor.node() == node && !is_set(stopped, actor.serial()) && is_unmarked(graph, actor)
+    actor.node() == node && !is_set(stopped, actor.serial()) && is_unmarked(graph, is_marked, actor)
 }
 
-/// Whether the actor is known, not on a lost node, and not marked. Constant time on average.
-fn is_unmarked(graph: &TracedGraph, actor: ActorId) -> bool
-    ensures { result ≡ is_unmarked graph.now.graph (is_marked_in graph.now) actor }
+/// Whether the actor is known, not on a lost node, and not so marked. Constant time on average.
+fn is_unmarked(graph: &ShadowGraph, is_marked: bool, actor: ActorId) -> bool
+    ensures { result ≡ is_unmarked graph.now (λ a. is_marked) actor }
 {
-    graph.graph().is_known(actor) && !is_lost(graph.graph(), actor) && !graph.is_marked(actor)
+    graph.is_known(actor) && !is_lost(graph, actor) && !is_marked
 }
 
 /// Whether the actor's node is lost.
@@ -115,7 +121,7 @@ fn is_lost(graph: &ShadowGraph, actor: ActorId) -> bool
 }
 
 /// The actors, rising, each once. It takes no memory. Time in proportion to n log n.
-fn sorted(actors: Vec<ActorId>) -> Vec<ActorId>
+pub fn sorted(actors: Vec<ActorId>) -> Vec<ActorId>
     ensures { result.items ≡ rising_actors actors.items }
 {
     let mut rising = actors;

@@ -25,6 +25,10 @@ reached-closed g P first on a (r, bs, inside, start, chain) = along r bs (first 
     along r [] here same = subst P same here
     along r (b ∷ bs) here chain = along b bs (on r b here chain.0) chain.1
 
+-- what is reached is a place
+pub reached-inside : (g : Graph) → IsGraph g → (a : ℕ) → IsReached g a → a < g.places
+reached-inside g whole = reached-closed g (λ a. a < g.places) (λ r inside start. inside) (λ b a inside step. whole.target b a inside step)
+
 -- ---- the worklist
 
 -- the starts are marked, what is marked is reached, and the targets of the first so many places of the order are marked

@@ -3,9 +3,10 @@
 
 mod graph;
 mod marks;
+mod rounds;
 
 pub use graph::PlaceGraph;
-pub use marks::{Marks, mark};
+pub use marks::{Marks, mark, mark_rounds};
 
 #[cfg(test)]
 mod tests;

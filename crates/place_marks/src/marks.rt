@@ -4,15 +4,18 @@ ghost use Rattle.place_marks.specs.Graph.{IsGraph};
 ghost use Rattle.place_marks.specs.Marks.{AreMarksReached, AreStartsMarked, IsMarking, IsOrdered, MarksTargets, Puts, is_marked};
 
 use crate::graph::PlaceGraph;
+use crate::rounds::{list_marked, reach_in_rounds};
 use crgc_ids::NoMemory;
 use std::alloc::Global;
 use std::marker::Model;
+use std::thread::Threads;
 
-/// Room for a mark at each of so many places, which of them are marked, and these in the order of marking. Contracts see the
-/// marks and their order.
+/// Room for a mark at each of so many places, in two rounds of marking; which of them are marked, and these in the order of
+/// marking. Contracts see the marks and their order.
 #[derive(Drop)]
 pub struct Marks {
     marks: Vec<bool>,
+    before: Vec<bool>,
     order: Vec<u32>,
 }
 
@@ -24,7 +27,8 @@ impl Model for Marks {
 
     ghost view = { λ m. record { marks = m.marks.items; order = m.order.items } };
 
-    ghost invariant = { λ m. IsOrdered m.marks.items m.order.items × (length m.marks.items ≤ vec_capacity m.order) };
+    ghost invariant = { λ m. IsOrdered m.marks.items m.order.items × (length m.marks.items ≤ vec_capacity m.order)
+        × (length m.marks.items ≤ length m.before.items) };
 }
 
 impl Marks {
@@ -34,6 +38,7 @@ impl Marks {
     {
         Marks {
             marks: Vec::new(alloc),
+            before: Vec::new(alloc),
             order: Vec::new(alloc),
         }
     }
@@ -94,7 +99,7 @@ impl Marks {
         self.order.clear();
     }
 
-    /// There is room for a mark at each place of the graph; the marks stay. After `NoMemory` all is as before. Linear time in the
+    /// There is room for a mark at each place of the graph, in two rounds; the marks stay. After `NoMemory` all is as before. Linear time in the
     /// number of places.
     pub fn reserve<G: PlaceGraph>(&mut self, graph: &G) -> Result<(), NoMemory>
         ensures room { OnOk result (length self.new.marks ≡ max (length self.old.marks) (G.graph graph.now).places) }
@@ -106,6 +111,9 @@ impl Marks {
             return Ok(());
         }
         if self.order.reserve(places).is_err() {
+            return Err(NoMemory);
+        }
+        if self.before.resize(places, false).is_err() {
             return Err(NoMemory);
         }
         match self.marks.resize(places, false) {
@@ -125,6 +133,28 @@ pub fn mark<G: PlaceGraph>(graph: &G, marks: &mut Marks)
     marks.clear();
     mark_starts(graph, marks);
     spread(graph, marks);
+}
+
+/// What `mark` marks is marked, in rounds: in each, so many threads decide the marks of a chunk of places each, from the marks of
+/// the round before. The first round that adds no mark is the last. It takes no memory. A round takes linear time in the places
+/// and their edges, shared by the threads; the rounds are at most one more than the places, and as many as the longest of the
+/// shortest chains has places, and one.
+pub fn mark_rounds<R: Threads + Sync, G: PlaceGraph + Sync>(
+    rt: &R,
+    graph: &G,
+    marks: &mut Marks,
+    parts: u32,
+)
+    requires room { (G.graph graph.now).places ≤ length marks.old.marks }
+    requires parts { 1 ≤ parts }
+    ensures marked { IsMarking (G.graph graph.now) marks.new }
+    ensures room { length marks.new.marks ≡ length marks.old.marks }
+{
+    let places = graph.place_count();
+    marks.marks.fill(false);
+    reach_in_rounds(rt, graph, &mut marks.before, &mut marks.marks, parts);
+    marks.order.clear();
+    list_marked(&marks.marks, places, &mut marks.order);
 }
 
 /// The starts are marked, where no place was.

@@ -7,7 +7,7 @@ mod touch;
 mod trace;
 mod traced;
 
-pub use marks::{Marks, mark};
+pub use marks::{Marks, mark, mark_rounds};
 pub use trace::Trace;
 pub use traced::TracedGraph;
 

@@ -12,6 +12,7 @@ use place_marks::PlaceGraph;
 use shadow_graph::ShadowGraph;
 use std::alloc::Global;
 use std::marker::Model;
+use std::thread::Threads;
 
 /// Which actors are marked, and room for the marks of so many. Contracts see the actors and the room.
 #[derive(Drop)]
@@ -43,7 +44,7 @@ impl Marks {
         }
     }
 
-    /// There is room for the marks of all actors that the graph names; the marks stay. After `NoMemory` all is as before. Linear
+    /// There is room for the marks of all actors that the graph names, in two rounds; the marks stay. After `NoMemory` all is as before. Linear
     /// time in the number of actors.
     pub fn reserve(&mut self, graph: &ShadowGraph) -> Result<(), NoMemory>
         ensures room { OnOk result (length graph.now.shadows.names ≤ self.new.room) }
@@ -76,6 +77,21 @@ pub fn mark(graph: &ShadowGraph, room: &mut Marks)
     ensures room { room.new.room ≡ room.old.room }
 {
     place_marks::mark(&Trace::new(graph), &mut room.places);
+    name_marked(graph, &room.places, &mut room.actors);
+}
+
+/// The actors are marked that `mark` marks, in rounds over so many parts of the places: in each round a thread for each part, where
+/// one can be made, decides the marks of its places from those of the round before, by their owners. The first round that adds no
+/// mark is the last. It takes no memory. Each round takes linear time in the actors and their edges, shared by the threads, on
+/// average; there are at most as many rounds as actors, and one.
+pub fn mark_rounds<R: Threads + Sync>(rt: &R, graph: &ShadowGraph, room: &mut Marks, parts: u32)
+    requires room { length graph.now.shadows.names ≤ room.old.room }
+    requires some { 1 ≤ parts }
+    requires in_range { parts ≤ 32 }
+    ensures sweep { IsSweepOf graph.now room.new }
+    ensures room { room.new.room ≡ room.old.room }
+{
+    place_marks::mark_rounds(rt, &Trace::new(graph), &mut room.places, parts);
     name_marked(graph, &room.places, &mut room.actors);
 }
 

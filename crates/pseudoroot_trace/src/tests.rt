@@ -3,12 +3,13 @@ ghost use Rattle.std.specs.Prelude.{◌≡◌, ◌<◌, IfOk};
 ghost use Rattle.history_model.specs.Tells.{origin_of};
 ghost use Rattle.shadow_graph.specs.Taken.{IsLinked};
 
-use crate::{Marks, mark};
+use crate::{Marks, mark, mark_rounds};
 use crgc_ids::{ActorCounts, ActorId, NodeId, PairCount, PairCounts};
 use history_model::{Bulletin, Delta, StateRow, StateRows, Window};
 use shadow_graph::ShadowGraph;
 use std::alloc::Global;
 use std::test::Fail;
+use std::thread::Threads;
 
 fn node(number: u8) -> Result<NodeId, Fail>
     ensures { IfOk result (λ n. n ≡ number) }
@@ -140,5 +141,48 @@ fn actors_of_lost_nodes_are_not_marked(rt: HostRuntime) -> Result<(), Fail> {
     };
     let graph = folded(alloc, at, &Bulletin::Final(window))?;
     assert_eq!(rt; marked(alloc, &graph, owner, target)?, (false, true));
+    Ok(())
+}
+
+/// Whether rounds over so many parts mark each of the actors if a plain mark does.
+fn rounds_agree<R: Threads + Sync>(
+    rt: &R,
+    alloc: Global,
+    graph: &ShadowGraph,
+    parts: u32,
+) -> Result<bool, Fail> {
+    let (mut plain, mut rounds) = (Marks::new(alloc), Marks::new(alloc));
+    plain.reserve(graph)?;
+    rounds.reserve(graph)?;
+    mark(graph, &mut plain);
+    if parts < 1 || parts > 32 {
+        return Err(Fail::from("no such number of parts"));
+    }
+    mark_rounds(rt, graph, &mut rounds, parts);
+    for place in 0..graph.place_count() {
+        let actor = graph.actor_at(place).ok_or("no actor")?;
+        if plain.is_marked(actor) != rounds.is_marked(actor) {
+            return Ok(false);
+        }
+    }
+    Ok(true)
+}
+
+/// Whether rounds over 1, 2 and 7 parts mark what a plain mark does.
+fn all_agree<R: Threads + Sync>(rt: &R, alloc: Global, graph: &ShadowGraph) -> Result<bool, Fail> {
+    let one = rounds_agree(rt, alloc, graph, 1)?;
+    let two = rounds_agree(rt, alloc, graph, 2)?;
+    let seven = rounds_agree(rt, alloc, graph, 7)?;
+    Ok(one && two && seven)
+}
+
+#[test]
+fn rounds_mark_what_a_plain_mark_marks(rt: HostRuntime) -> Result<(), Fail> {
+    let node = node(0)?;
+    let (first, second) = (actor(node, 0)?, actor(node, 1)?);
+    let held = graph_with(rt.alloc(), first, second, 1)?;
+    let free = graph_with(rt.alloc(), first, second, 0)?;
+    assert_eq!(rt; all_agree(&rt, rt.alloc(), &held)?, true);
+    assert_eq!(rt; all_agree(&rt, rt.alloc(), &free)?, true);
     Ok(())
 }

@@ -11,6 +11,7 @@ ghost use Rattle.shadow_graph.specs.Stands.{IsGraphOf};
 ghost use Rattle.shadow_graph.specs.Taken.{FoldsIn, IsLinked};
 ghost use Rattle.pseudoroot_trace.specs.Trace.{place_graph};
 ghost use Rattle.pseudoroot_trace.specs.Traced.{AreSeen, AreStanding, IsSweptAlong, IsSweptGraph, IsUnmarked, KeepsMarks, MayFall, TakesFallen, is_marked_in};
+ghost use Rattle.crgc_ids.specs.declared.limits.TheConstants.{MOST_EVENTS};
 
 use crate::touch::{touch_actor, touch_from, touch_rows};
 use crate::trace::Trace;
@@ -77,7 +78,7 @@ impl TracedGraph {
         requires of_origin { origin_of b.now ≡ origin }
         requires in_range { origin < self.old.graph.finals.nodes }
         requires linked { IsLinked self.old.graph.finals.nodes b.now }
-        requires fewer { slice_index self.old.graph.cut origin < 1000000 }
+        requires fewer { slice_index self.old.graph.cut origin < MOST_EVENTS }
         ensures ok { OnOk result (FoldsIn origin b.now self.old.graph self.new.graph) }
         ensures marks { OnOk result (KeepsMarks self.old self.new) }
         ensures err { OnErr result (self.new ≡ self.old) }

@@ -19,7 +19,8 @@ returns-then-not-falls c =
     let t = c.args.graph.now in
     let same : c.actor_at-actor.result ≡ actor_of t.graph c.args.place = c.actor_at-actor.ensures ∙ ap (λ (g : Graph). actor_of g c.args.place) c.graph-shadows.ensures in
     let not_so : c.falls.result ≡ falls t.graph (is_marked_in t) c.args.node c.args.stopped.now (actor_of t.graph c.args.place) =
-    c.falls.ensures ∙ ap (falls t.graph (is_marked_in t) c.args.node c.args.stopped.now) same in
+    c.falls.ensures ∙ (λ i. falls (c.graph-shadows.ensures i) (λ a. c.is_marked.ensures i) c.args.node c.args.stopped.now c.actor_at-actor.result)
+    ∙ ap (falls t.graph (is_marked_in t) c.args.node c.args.stopped.now) same in
     finds-none t c.args.node c.args.stopped.now c.args.place c.args.found.now.items c.args.found.now.items refl
     (λ inside is. false≢true (sym c.if-not-falls.true ∙ not_so ∙ is))
 
@@ -30,6 +31,7 @@ returns-in-Ok c =
     let within = c.if-place-places.false in
     let same : c.actor_at-actor.result ≡ actor_of t.graph c.args.place = c.actor_at-actor.ensures ∙ ap (λ (g : Graph). actor_of g c.args.place) c.graph-shadows.ensures in
     let so : c.falls.result ≡ falls t.graph (is_marked_in t) c.args.node c.args.stopped.now (actor_of t.graph c.args.place) =
-    c.falls.ensures ∙ ap (falls t.graph (is_marked_in t) c.args.node c.args.stopped.now) same in
+    c.falls.ensures ∙ (λ i. falls (c.graph-shadows.ensures i) (λ a. c.is_marked.ensures i) c.args.node c.args.stopped.now c.actor_at-actor.result)
+    ∙ ap (falls t.graph (is_marked_in t) c.args.node c.args.stopped.now) same in
     finds-one t c.args.node c.args.stopped.now (subst ArePlaced c.graph-shadows.ensures c.place_count-places.ensures.placed) c.args.place c.args.found.now.items c.push.new.self.items
     (omega arith) (sym so ∙ c.if-not-falls.false) (c.in-Ok.ensures.items ∙ ap (λ a. c.args.found.now.items ++ a ∷ []) same)

@@ -24,4 +24,5 @@ invariant_of-self c =
     let free = read-false marks c.args.place c.index.result.now c.index.ensures c.if-not-index.true in
     let long = length-set marks c.args.place true in
     let room = c.self.invariant.1 in
-    (subst (IsOrdered (set marks c.args.place true)) (sym c.push_reserved.ensures.items) (ordered-put marks order c.args.place c.self.invariant.0 inside free), omega arith)
+    let before = c.self.invariant.2 in
+    (subst (IsOrdered (set marks c.args.place true)) (sym c.push_reserved.ensures.items) (ordered-put marks order c.args.place c.self.invariant.0 inside free), omega arith, omega arith)
