@@ -35,16 +35,16 @@ GoesOn r = (why : Halt) → r ≡ replies.Halted why → ⊥
 
 -- a bulletin is there, and its number is below 1,000,000; or none is; or the node is down
 pub data HandAnswer (n k : ℕ) (r : Reply) : Type 0 where
-  given : (bytes : List ℕ) → r ≡ replies.Bytes bytes → k < 1000000 → HandAnswer n k r
-  nothing : r ≡ replies.Nothing → HandAnswer n k r
-  down : r ≡ replies.Down n → HandAnswer n k r
+  has_bytes : (bytes : List ℕ) → r ≡ replies.Bytes bytes → k < 1000000 → HandAnswer n k r
+  has_none : r ≡ replies.Nothing → HandAnswer n k r
+  is_down : r ≡ replies.Down n → HandAnswer n k r
 
 hand-cases : (a b c d : Bool) (n k : ℕ) (r : Reply) (G : Type 0) → (G → HandAnswer n k r)
     → Unless (if a then Some replies.Nothing else if b then Some replies.Nothing else if c then Some (replies.Down n) else if d then Some replies.Nothing else None) r G → HandAnswer n k r
-hand-cases true b c d n k r G granted is = nothing is
-hand-cases false true c d n k r G granted is = nothing is
-hand-cases false false true d n k r G granted is = down is
-hand-cases false false false true n k r G granted is = nothing is
+hand-cases true b c d n k r G granted is = has_none is
+hand-cases false true c d n k r G granted is = has_none is
+hand-cases false false true d n k r G granted is = is_down is
+hand-cases false false false true n k r G granted is = has_none is
 hand-cases false false false false n k r G granted is = granted is
 
 sweep-cases : (a c : Bool) (n : ℕ) (r : Reply) → not a ≡ true → Unless (if a then Some replies.Nothing else if c then Some (replies.Down n) else None) r (r ≡ replies.Done) → (r ≡ replies.Done) ⊎ (r ≡ replies.Down n)
@@ -77,7 +77,7 @@ module _ (o : Opening) (h : Calls) (p : ℕ) (r : Reply) (goes_on : GoesOn r) wh
           let room = (passes-none (cluster_of o.script) (events.Hand n x k) w (subst (λ t. MayFollow o.script (events_by o.script (deed_of (ops.Hand n x k) t) w) w) granted.2 made.1).1).events in
           let there = slice_get_within (stream (cluster_of o.script) x w) k granted.1 granted.3 in
           let short = stream-short (cluster_of o.script) x w in
-          given granted.0 granted.2 (omega (arith, room, there, short)))
+          has_bytes granted.0 granted.2 (omega (arith, room, there, short)))
           made.0
 
   pub sweep-answered : (v : Verdict) → nat_lt v.node script_nodes ≡ true → IsCourse o (entry p (ops.Sweep v) r ∷ h) → (r ≡ replies.Done) ⊎ (r ≡ replies.Down v.node)

@@ -253,3 +253,13 @@ follows-compact cl own old new compacts h = record {
   collected = collected-still cl own old new compacts.node compacts.order (compacts.stands cl) h.collected;
   stopped = λ a here. (λ i. (a.node == compacts.node i) && flag_at (compacts.stopped i) a.serial) ∙ h.stopped a (here ∙ compacts.node);
 }
+
+pub remembers-stopped : (cl : Cluster) (own : Calls) (c : Collected) → IsCollectorOf cl own c → RemembersMore cl own c
+remembers-stopped cl own c h = record { collected = h.collected; stopped = λ a here is. h.stopped a here ∙ is }
+
+pub remembers-compact : (cl : Cluster) (own : Calls) (old new : Collected) → Compacts old new → RemembersMore cl own old → RemembersMore cl own new
+remembers-compact cl own old new compacts h = record {
+  collected = collected-still cl own old new compacts.node compacts.order (compacts.stands cl) h.collected;
+  stopped = λ a here is.
+      (λ i. (a.node == compacts.node i) && flag_at (compacts.stopped i) a.serial) ∙ h.stopped a (here ∙ compacts.node) is;
+}

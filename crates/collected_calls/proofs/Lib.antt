@@ -1,3 +1,4 @@
 pub mod Following
 pub mod Fitting
 pub mod Answered
+pub mod Reading

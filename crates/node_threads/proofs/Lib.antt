@@ -1,1 +1,3 @@
 mod PumpLemmas
+mod HandLemmas
+mod RoundLemmas

@@ -9,7 +9,8 @@ use Rattle.operation_model.specs.declared.operations.Op.TheVariants as ops
 use Rattle.operation_model.specs.declared.replies.Reply.{Reply}
 use Rattle.operation_model.specs.declared.replies.Reply.TheVariants as replies
 use Rattle.operation_model.specs.Turns.{Calls}
-use Rattle.node_threads.specs.Pumping.{AsksNothing, HasAll, HasCarries, HasPublish, HasRemoval, HasWindow, IsFree, IsMade, Since, SinceOrDown, done_by}
+use Rattle.node_threads.specs.Pumping.{HasAll, HasCarries, HasPublish, HasRemoval, HasWindow, IsFree, Since, SinceOrDown, done_by}
+use Rattle.node_threads.specs.Questions.{AsksNothing, IsMade, times_given_up}
 
 -- ---- one of the calls
 
@@ -42,6 +43,14 @@ free-asks op free is = absurd free
 one-asks : (op : Op) (number : ℕ) (r : Reply) → IsFree op → AsksNothing (entry number op r ∷ [])
 one-asks op number r free (inl is) = free-asks op free is
 one-asks op number r free (inr is) = is
+
+-- a free operation says nothing of memory
+pub free-gives : (op : Op) (number : ℕ) (r : Reply) (old new : Calls) → IsFree op → new ≡ entry number op r ∷ old → times_given_up new ≡ times_given_up old
+free-gives (ops.Publish n) number r old new free own = ap times_given_up own
+free-gives (ops.Window d) number r old new free own = ap times_given_up own
+free-gives (ops.Remove d) number r old new free own = ap times_given_up own
+free-gives (ops.Carry f d) number r old new free own = ap times_given_up own
+free-gives op number r old new free own = absurd free
 
 -- ---- calls since
 

@@ -1,1 +1,4 @@
+pub mod Questions
 pub mod Pumping
+pub mod Collecting
+pub mod Fetching

@@ -1,21 +1,12 @@
 -- What a pump has done for its node.
-use Rattle.std.specs.Prelude.{ℕ, ◌≡◌, ◌≢◌, ◌<◌, ◌⊎◌, ◌++◌, [], ◌∷◌, Bool, true, false, Option, Some, None}
-use Rattle.turn_lock.specs.History.{entry}
+use Rattle.std.specs.Prelude.{ℕ, ◌≡◌, ◌≢◌, ◌<◌, ◌++◌, Bool, true, false, Option, Some, None}
 use Rattle.operation_model.specs.declared.operations.Op.{Op}
 use Rattle.operation_model.specs.declared.operations.Op.TheVariants as ops
 use Rattle.operation_model.specs.declared.replies.Reply.{Reply}
 use Rattle.operation_model.specs.declared.replies.Reply.TheVariants as replies
 use Rattle.operation_model.specs.Turns.{Calls}
 use Rattle.cluster_calls.specs.Calling.{last_reply}
-
--- one of the calls is of the operation
-abbrev pub IsMade : Op → Calls → Type 0
-IsMade op [] = ⊥
-IsMade op (e ∷ earlier) = (e.op ≡ op) ⊎ IsMade op earlier
-
--- none of the calls asks whether nothing is left to do
-abbrev pub AsksNothing : Calls → Type 0
-AsksNothing calls = IsMade ops.Finished calls → ⊥
+use Rattle.node_threads.specs.Questions.{AsksNothing, IsMade}
 
 -- among the calls is a carry of each link that leads to the node from one with a lower number than this
 abbrev pub HasCarries : ℕ → ℕ → Calls → Type 0
@@ -31,14 +22,6 @@ pub record HasAll (node : ℕ) (calls : Calls) : Type 0 where
 -- the last call was answered that a node is down
 abbrev pub EndsDown : Calls → Type 0
 EndsDown own = (n : ℕ) × (last_reply own ≡ Some (replies.Down n))
-
--- the last call was answered that nothing is left to do, and so was the last one of the same kind before it; between them is all
--- that a pump does for its node
-abbrev pub EndsDone : ℕ → ℕ → Calls → Type 0
-EndsDone number node own =
-    (calls : Calls) × (earlier : Calls)
-    × (own ≡ entry number ops.Finished replies.AllDone ∷ (calls ++ entry number ops.Finished replies.AllDone ∷ earlier))
-    × AsksNothing calls × HasAll node calls
 
 -- ---- rounds
 
@@ -73,13 +56,3 @@ HasRemoval node calls = IsMade (ops.Remove node) calls × HasPublish node calls
 
 abbrev pub HasWindow : ℕ → Calls → Type 0
 HasWindow node calls = IsMade (ops.Window node) calls × HasRemoval node calls
-
--- where nothing is left to do, the last call was answered so
-abbrev pub IsOver : ℕ → Bool → Calls → Type 0
-IsOver number true own = (earlier : Calls) × (own ≡ entry number ops.Finished replies.AllDone ∷ earlier)
-IsOver number false own = Unit {0}
-
--- and it is the one call since
-abbrev pub EndsOver : ℕ → Bool → Calls → Calls → Type 0
-EndsOver number true old new = new ≡ entry number ops.Finished replies.AllDone ∷ old
-EndsOver number false old new = Unit {0}

@@ -1,31 +1,17 @@
-//! Staying away from the lock while there is nothing to do.
+//! Staying away from the lock between rounds.
 use std::thread::sleep;
 use std::time::{Clock, Duration};
 
-// The shortest and the longest sleep, in microseconds.
-const SHORTEST: u32 = 16;
+// How many microseconds a thread of a node stays away from the lock after a round in which there was something to do, and after
+// one in which there was nothing.
+const AFTER_SOME: u64 = 4096;
 
-const LONGEST: u32 = 1024;
+const AFTER_NONE: u64 = 8192;
 
-/// How long a thread with nothing to do sleeps before it asks again: twice as long each time, up to about a millisecond.
-#[derive(Clone, Copy, Debug)]
-pub(crate) struct Pause {
-    microseconds: u32,
-}
-
-impl Pause {
-    /// The shortest sleep.
-    pub(crate) fn shortest() -> Pause {
-        Pause {
-            microseconds: SHORTEST,
-        }
-    }
-
-    /// Sleeps; the next sleep is longer.
-    pub(crate) fn sleep<R: Clock>(self, rt: &R) -> Pause {
-        sleep(rt, Duration::from_micros(u64::from(self.microseconds)));
-        Pause {
-            microseconds: self.microseconds.saturating_mul(2).min(LONGEST),
-        }
+/// Stays away from the lock, so that workers have it; but not on the way to the last round.
+pub(crate) fn pause<R: Clock>(rt: &R, any: bool, last: bool) {
+    if !last {
+        let microseconds = if any { AFTER_SOME } else { AFTER_NONE };
+        sleep(rt, Duration::from_micros(microseconds));
     }
 }

@@ -3,7 +3,8 @@ ghost use Rattle.std.specs.Prelude.{◌≡◌, ◌≢◌, ◌<◌, IfErr, IfOk, 
 ghost use Rattle.operation_model.specs.declared.operations.Op.TheVariants as ops;
 ghost use Rattle.operation_model.specs.declared.replies.Reply.TheVariants.{Halted};
 ghost use Rattle.cluster_calls.specs.Calling.{CanAsk, IsSame, last_reply};
-ghost use Rattle.node_threads.specs.Pumping.{HasAll, HasCarries, HasPublish, HasRemoval, HasWindow, IsFree, IsMade, Since, SinceOrDown, done_by};
+ghost use Rattle.node_threads.specs.Pumping.{HasAll, HasCarries, HasPublish, HasRemoval, HasWindow, IsFree, Since, SinceOrDown, done_by};
+ghost use Rattle.node_threads.specs.Questions.{IsMade, times_given_up};
 
 use cluster_calls::ask;
 use crgc_ids::NodeId;
@@ -27,6 +28,7 @@ pub(crate) fn pump_once<R: Wait>(
     ensures same { IsSame pass.old pass.new }
     ensures all { IfOk result (λ done. SinceOrDown (HasAll node) pass.old.own pass.new.own done) }
     ensures err { IfErr result (λ halt. last_reply pass.new.own ≡ Some (Halted halt)) }
+    ensures gives { times_given_up pass.new.own ≡ times_given_up pass.old.own }
 {
     match carry_all(rt, lock, pass, node) {
         Ok(any) => cut_window(rt, lock, pass, node, any),
@@ -45,6 +47,7 @@ fn carry_all<R: Wait>(
     ensures same { IsSame pass.old pass.new }
     ensures carries { OnOk result (Since (HasCarries at 16) pass.old.own pass.new.own) }
     ensures err { IfErr result (λ halt. last_reply pass.new.own ≡ Some (Halted halt)) }
+    ensures gives { times_given_up pass.new.own ≡ times_given_up pass.old.own }
 {
     let mut any = false;
     for number in 0..NODES {
@@ -69,6 +72,7 @@ fn carry_from<R: Wait>(
     ensures same { IsSame pass.old pass.new }
     ensures carry { OnOk result (Since (λ calls. number ≢ at → IsMade (ops.Carry number at) calls) pass.old.own pass.new.own) }
     ensures err { IfErr result (λ halt. last_reply pass.new.own ≡ Some (Halted halt)) }
+    ensures gives { times_given_up pass.new.own ≡ times_given_up pass.old.own }
 {
     let from = NodeId::new(number).unwrap();
     if from == at {
@@ -92,6 +96,7 @@ fn cut_window<R: Wait>(
     ensures same { IsSame pass.old pass.new }
     ensures all { IfOk result (λ done. SinceOrDown (HasWindow node) pass.old.own pass.new.own done) }
     ensures err { IfErr result (λ halt. last_reply pass.new.own ≡ Some (Halted halt)) }
+    ensures gives { times_given_up pass.new.own ≡ times_given_up pass.old.own }
 {
     match tell(rt, lock, pass, Op::Window { at: node }) {
         Ok(Some(cut)) => remove(rt, lock, pass, node, any | cut),
@@ -112,6 +117,7 @@ fn remove<R: Wait>(
     ensures same { IsSame pass.old pass.new }
     ensures all { IfOk result (λ done. SinceOrDown (HasRemoval node) pass.old.own pass.new.own done) }
     ensures err { IfErr result (λ halt. last_reply pass.new.own ≡ Some (Halted halt)) }
+    ensures gives { times_given_up pass.new.own ≡ times_given_up pass.old.own }
 {
     match tell(rt, lock, pass, Op::Remove { at: node }) {
         Ok(Some(removed)) => publish(rt, lock, pass, node, any | removed),
@@ -132,6 +138,7 @@ fn publish<R: Wait>(
     ensures same { IsSame pass.old pass.new }
     ensures all { IfOk result (λ done. SinceOrDown (HasPublish node) pass.old.own pass.new.own done) }
     ensures err { IfErr result (λ halt. last_reply pass.new.own ≡ Some (Halted halt)) }
+    ensures gives { times_given_up pass.new.own ≡ times_given_up pass.old.own }
 {
     match tell(rt, lock, pass, Op::Publish { node }) {
         Ok(Some(published)) => Ok(Some(any | published)),
@@ -152,6 +159,7 @@ fn tell<R: Wait>(
     ensures same { IsSame pass.old pass.new }
     ensures made { IfOk result (λ done. SinceOrDown (IsMade op) pass.old.own pass.new.own done) }
     ensures err { IfErr result (λ halt. last_reply pass.new.own ≡ Some (Halted halt)) }
+    ensures gives { times_given_up pass.new.own ≡ times_given_up pass.old.own }
 {
     match ask(rt, lock, pass, op) {
         Ok(reply) => Ok(done(reply)),
@@ -159,8 +167,8 @@ fn tell<R: Wait>(
     }
 }
 
-// Whether the reply says that the operation was done; None where its node is down.
-fn done(reply: Reply) -> Option<bool>
+/// Whether the reply says that the operation was done; None where its node is down.
+pub(crate) fn done(reply: Reply) -> Option<bool>
     ensures { result ≡ done_by reply }
 {
     match reply {

@@ -1,4 +1,4 @@
-use Rattle.collected_calls.proofs.Following.{follows-compact, follows-hand, follows-other, follows-start, follows-sweep, follows-untold}
+use Rattle.collected_calls.proofs.Following.{follows-compact, follows-hand, follows-other, follows-start, follows-sweep, follows-untold, remembers-compact, remembers-stopped}
 use Rattle.collected_calls.proofs.laws.a_collector_follows_the_calls_of_its_pass.Goals as goal
 
 pub returns-clause-start : goal.returns-clause-start
@@ -18,3 +18,9 @@ returns-clause-untold c = λ cl own old new v op r pass other sweeps. follows-un
 
 pub returns-clause-compact : goal.returns-clause-compact
 returns-clause-compact c = follows-compact
+
+pub returns-clause-more : goal.returns-clause-more
+returns-clause-more c = remembers-stopped
+
+pub returns-clause-more_compact : goal.returns-clause-more_compact
+returns-clause-more_compact c = remembers-compact

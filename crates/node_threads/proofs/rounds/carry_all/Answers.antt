@@ -1,6 +1,7 @@
-use Rattle.std.proofs.Common.{◌+◌, ◌≢◌}
+use Rattle.std.proofs.Common.{◌+◌, ◌≢◌, ◌∙◌}
 use Rattle.operation_model.specs.declared.operations.Op.TheVariants as ops
-use Rattle.node_threads.specs.Pumping.{HasCarries, IsMade}
+use Rattle.node_threads.specs.Pumping.{HasCarries}
+use Rattle.node_threads.specs.Questions.{IsMade}
 use Rattle.node_threads.proofs.PumpLemmas.{all-carried, carries-more, since-then}
 use Rattle.node_threads.proofs.rounds.carry_all.Goals as goal
 use Rattle.cluster_calls.proofs.Same.{same-then}
@@ -12,6 +13,7 @@ loop-number-preserved g c =
       same-then c.args.pass.now c.loop-number.pass c.carry_from.new.pass c.loop-number.invariant.0 c.carry_from.ensures.same,
       since-then (HasCarries n f) (λ calls. f ≢ n → IsMade (ops.Carry f n) calls) (HasCarries n (f + 1)) (carries-more n f)
           c.args.pass.now.own c.loop-number.pass.own c.carry_from.new.pass.own c.loop-number.invariant.1 c.in-Ok.ensures.carry,
+      c.carry_from.ensures.gives ∙ c.loop-number.invariant.2,
     )
 
 pub returns-clause-carries : goal.returns-clause-carries

@@ -1,5 +1,6 @@
 use Rattle.operation_model.specs.declared.operations.Op.TheVariants as ops
-use Rattle.node_threads.specs.Pumping.{HasRemoval, HasWindow, IsMade}
+use Rattle.node_threads.specs.Pumping.{HasRemoval, HasWindow}
+use Rattle.node_threads.specs.Questions.{IsMade}
 use Rattle.node_threads.proofs.PumpLemmas.{removal-window, since-ok, since-some}
 use Rattle.node_threads.proofs.rounds.cut_window.Goals as goal
 

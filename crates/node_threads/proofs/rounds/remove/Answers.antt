@@ -1,5 +1,6 @@
 use Rattle.operation_model.specs.declared.operations.Op.TheVariants as ops
-use Rattle.node_threads.specs.Pumping.{HasPublish, HasRemoval, IsMade}
+use Rattle.node_threads.specs.Pumping.{HasPublish, HasRemoval}
+use Rattle.node_threads.specs.Questions.{IsMade}
 use Rattle.node_threads.proofs.PumpLemmas.{publish-removal, since-ok, since-some}
 use Rattle.node_threads.proofs.rounds.remove.Goals as goal
 
