@@ -15,16 +15,21 @@ use crgc_io::Gate;
 use operation_model::{Halt, Op, Reply};
 use std::alloc::Global;
 use std::sync::Wait;
+use std::thread::sleep;
+use std::time::{Clock, Duration};
 use turn_lock::{Pass, TurnLock};
 use world_object::Shared;
+
+// How many microseconds a worker stays away from the lock where only others have something to do.
+const PAUSE: u64 = 50;
 
 /// Runs turns through the lock until nothing is left to do; the Err is why the cluster has halted. `code` is that of the cluster
 /// with which the lock was made. The worker takes the actors that a refill tells of; where there are none it wakes, and where
 /// there is nothing to wake it carries what it knows to be on links. The gate is told of each turn as it begins.
 ///
 /// Where it ends with Ok, each turn that it began has ended, unless its node went down. It may wait: for its turn at the lock,
-/// and for others whose turns are not at their end.
-pub fn work<G: Gate, R: Wait>(
+/// and, asleep, for others whose turns are not at their end.
+pub fn work<G: Gate, R: Wait + Clock>(
     rt: &R,
     alloc: Global,
     lock: &TurnLock<Shared>,
@@ -53,7 +58,7 @@ pub fn work<G: Gate, R: Wait>(
 }
 
 // Does what there is to do, one kind of it; whether nothing is left.
-fn look<G: Gate, R: Wait>(
+fn look<G: Gate, R: Wait + Clock>(
     rt: &R,
     alloc: Global,
     lock: &TurnLock<Shared>,
@@ -78,7 +83,7 @@ fn look<G: Gate, R: Wait>(
 }
 
 // Carries what there is to carry; where there is nothing, whether nothing is left to do.
-fn carry_or_finish<R: Wait>(
+fn carry_or_finish<R: Wait + Clock>(
     rt: &R,
     lock: &TurnLock<Shared>,
     pass: &mut Pass<Shared>,
@@ -145,8 +150,9 @@ fn wake<G: Gate, R: Wait>(
     }
 }
 
-// Whether nothing is left to do. Where nobody is in a turn and yet messages are live, they may be on any link from now on.
-fn finished<R: Wait>(
+// Whether nothing is left to do. Where nobody is in a turn and yet messages are live, they may be on any link from now on; where
+// somebody is, what is to be done next comes of that turn.
+fn finished<R: Wait + Clock>(
     rt: &R,
     lock: &TurnLock<Shared>,
     pass: &mut Pass<Shared>,
@@ -164,7 +170,10 @@ fn finished<R: Wait>(
             *nodes = all_nodes();
             Ok(false)
         }
-        Ok(_) => Ok(false),
+        Ok(_) => {
+            sleep(rt, Duration::from_micros(PAUSE));
+            Ok(false)
+        }
         Err(halt) => Err(halt),
     }
 }

@@ -3,6 +3,7 @@ pub mod FaultLines
 pub mod Input
 pub mod PlayOutcome
 pub mod RunOutcome
+pub mod WorkersOutcome
 pub mod GenOutcome
 pub mod Refusals
 pub mod Outcome

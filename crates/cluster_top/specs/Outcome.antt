@@ -2,7 +2,7 @@
 use Rattle.std.specs.Prelude.{ℕ, ◌≡◌, ◌<◌, ◌⊎◌, List, Option, length, take, Bool}
 use Rattle.crgc_io.specs.Fault.{CountRose}
 use Rattle.crgc_io.specs.Taken.{Puts}
-use Rattle.command_words.specs.Commands.{Spells}
+use Rattle.command_words.specs.Commands.{IsCommand, Spells}
 use Rattle.command_words.specs.declared.command.Command.{Command}
 use Rattle.command_words.specs.declared.command.Command.TheVariants.{Play, Run, Gen}
 use Rattle.cluster_top.specs.declared.status.Status.{Status}
@@ -12,29 +12,19 @@ use Rattle.cluster_top.specs.GenOutcome.{GenCameTo}
 use Rattle.cluster_top.specs.PlayOutcome.{PlayCameTo}
 use Rattle.cluster_top.specs.RunOutcome.{RunCameTo}
 
--- the program carries the command out: a run has no worker threads yet
-abbrev pub IsCarriedOut : Command → Type 0
-IsCarriedOut (Play brief) = Unit {0}
-IsCarriedOut (Run workers brief) = workers ≡ 0
-IsCarriedOut (Gen seed size) = Unit {0}
-
--- the words are a command that the program carries out
-abbrev pub IsTask : List (List ℕ) → Type 0
-IsTask words = (c : Command) × Spells words c × IsCarriedOut c
-
--- what a command came to before anything was written, with the text that was then to be written
+-- what a command came to before anything was written, with the text that was then to be written; a run has no worker threads
 abbrev pub CommandCameTo : {S : Type 0} → (left : S → Option (List ℕ)) (given : S → List ℕ) (ended : S → Bool)
     (faults : S → ℕ) (old new : S) → Command → Status → List ℕ → Type 0
 CommandCameTo left given ended faults old new (Play brief) status text = PlayCameTo left given ended faults old new brief status text
 CommandCameTo left given ended faults old new (Run workers brief) status text = RunCameTo left given ended faults old new brief status text
 CommandCameTo left given ended faults old new (Gen seed size) status text = GenCameTo old new seed size status text
 
--- what the call came to: what the words ask for, or `Usage` where they are no such command
+-- what the call came to: what the words ask for, or `Usage` where they are no command
 abbrev pub CameTo : {S : Type 0} → (left : S → Option (List ℕ)) (given : S → List ℕ) (ended : S → Bool)
     (faults : S → ℕ) (words : List (List ℕ)) (old new : S) → Status → List ℕ → Type 0
 CameTo left given ended faults words old new status text =
-    ((c : Command) × Spells words c × IsCarriedOut c × CommandCameTo left given ended faults old new c status text)
-    ⊎ ((¬ IsTask words) × (new ≡ old) × (status ≡ Usage) × (text ≡ usage_line))
+    ((c : Command) × Spells words c × CommandCameTo left given ended faults old new c status text)
+    ⊎ ((¬ IsCommand words) × (new ≡ old) × (status ≡ Usage) × (text ≡ usage_line))
 
 -- all of the text was written, or a write failed after its first bytes
 abbrev pub IsWritten : {K : Type 0} → (held : K → Option (List ℕ)) (taken : K → List ℕ)

@@ -1,10 +1,11 @@
 -- Why there is no report, as the code keeps it; only what is private cites it.
-use Rattle.std.specs.Prelude.{ℕ, ◌≡◌, ◌⊎◌, List, Option, Result, Err}
+use Rattle.std.specs.Prelude.{ℕ, ◌≡◌, ◌⊎◌, Bool, List, Option, Some, Result, Err}
 use Rattle.journal_model.specs.Journals.{Fault, limit}
 use Rattle.journal_player.specs.Faults.{fault_of}
 use Rattle.journal_player.specs.declared.fault.PlayFault.{PlayFault}
 use Rattle.journal_player.specs.declared.fault.PlayFault.TheVariants as faults
 use Rattle.crgc_ids.specs.declared.Which.TheVariants.{Input}
+use Rattle.history_model.specs.Story.{Story}
 use Rattle.history_model.specs.declared.events.Event.{Event}
 use Rattle.run_model.specs.Schedule.{IsFirstLimit}
 use Rattle.script_reader.specs.Scripts.{IsFirstFault}
@@ -17,6 +18,8 @@ use Rattle.cluster_top.specs.declared.refusal.Refusal.TheVariants.{Usage, Script
 use Rattle.cluster_top.specs.FaultLines.{journal_line, limit_line, memory_line, read_line, script_line, usage_line}
 use Rattle.cluster_top.specs.Input.{Failed, GaveSome, GaveTooMuch}
 use Rattle.cluster_top.specs.RunOutcome.{PassesLimit}
+use Rattle.cluster_top.specs.WorkersOutcome.{IsHaltedAt}
+use Rattle.script_workers.specs.Ended.{IsFinishedRun, IsHaltedRun}
 
 -- the status of a refusal
 abbrev pub status_of : Refusal → Status
@@ -62,6 +65,23 @@ abbrev pub IsRunRefusal : Scripted → Refusal → Type 0
 IsRunRefusal script (Limit which) = (p : List Event) × IsFirstLimit script p which
 IsRunRefusal script NoMemory = Unit {0}
 IsRunRefusal script _ = ⊥
+
+-- the text is the report of the history that workers made of the script, and it is kept
+abbrev pub ReportsWorked : Scripted → Bool → List ℕ → Option Story → Type 0
+ReportsWorked script brief text kept = (h : Story) × (kept ≡ Some h) × IsFinishedRun script brief text h
+
+-- the refusal says which limit the run of the script by workers could pass next, and its history is kept
+abbrev pub IsRunHalt : Scripted → (kept kept' : Option Story) → Refusal → Type 0
+IsRunHalt script kept kept' (Limit which) = (h : Story) × (kept' ≡ Some h) × IsHaltedRun script which h
+IsRunHalt script kept kept' NoMemory = kept' ≡ kept
+IsRunHalt script kept kept' _ = ⊥
+
+-- the refusal says what the bytes of a script tell where it is run by workers
+abbrev pub IsWorkersRefusal : List ℕ → (kept kept' : Option Story) → Refusal → Type 0
+IsWorkersRefusal bytes kept kept' (Script fault text) = IsFirstFault bytes fault × (text ≡ script_line fault) × (kept' ≡ kept)
+IsWorkersRefusal bytes kept kept' (Limit which) = IsHaltedAt bytes which kept'
+IsWorkersRefusal bytes kept kept' NoMemory = kept' ≡ kept
+IsWorkersRefusal bytes kept kept' _ = ⊥
 
 -- why the input of a call is not read to its end
 abbrev pub IsInputRefusal : {S : Type 0} → (left : S → Option (List ℕ)) (given : S → List ℕ) (faults : S → ℕ) (old new : S) → Refusal → Type 0

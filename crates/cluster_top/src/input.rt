@@ -4,12 +4,9 @@ ghost use Rattle.cluster_top.specs.Input.{GaveAll};
 ghost use Rattle.cluster_top.specs.Refusals.{IsInputRefusal};
 
 use crate::refusal::Refusal;
-use crgc_ids::Which;
+use crgc_ids::{MOST_BYTES, Which};
 use crgc_io::{ReadAll, Source, read_all};
 use std::alloc::Global;
-
-/// How many bytes of input are read at most.
-const INPUT_LIMIT: usize = 16_777_216;
 
 /// All bytes of the source, or why they are not read.
 pub fn input<S: Source>(alloc: Global, source: &mut S) -> Result<Vec<u8>, Refusal>
@@ -17,7 +14,7 @@ pub fn input<S: Source>(alloc: Global, source: &mut S) -> Result<Vec<u8>, Refusa
     ensures refusal { IfErr result (λ r. IsInputRefusal S.left S.given S.faults source.old source.new r) }
     ensures never_falls { S.faults source.old ≤ S.faults source.new }
 {
-    match read_all(alloc, source, INPUT_LIMIT) {
+    match read_all(alloc, source, MOST_BYTES) {
         Ok(bytes) => Ok(bytes),
         Err(ReadAll::ReadFault) => Err(Refusal::ReadFault),
         Err(ReadAll::TooLong) => Err(Refusal::Limit(Which::Input)),

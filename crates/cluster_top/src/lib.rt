@@ -12,9 +12,11 @@ mod status;
 #[cfg(test)]
 mod tests;
 mod top;
+mod working;
 
+pub use command_words::wants_workers;
 pub use crgc_ids::Which;
 pub use journal_player::Cause;
 pub use script_reader::ScriptFault;
 pub use status::Status;
-pub use top::{crgc_top, plain_top, wants_workers};
+pub use top::{crgc_top, plain_top};

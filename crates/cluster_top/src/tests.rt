@@ -1,9 +1,13 @@
-use crate::{crgc_top, plain_top};
+use crate::{Status, crgc_top, plain_top, wants_workers};
 use crgc_ids::ActorId;
-use crgc_io::{Gate, MemorySink, MemorySource, QuietGate};
+use crgc_io::{Gate, HoldGate, MemorySink, MemorySource, QuietGate};
+use history_model::History;
 use std::alloc::Global;
+use std::sync::Wait;
 use std::sync::atomic::{AtomicU64, Ordering};
 use std::test::Fail;
+use std::thread::Threads;
+use std::time::Clock;
 
 const DROPPED_CHILD: &str =
     "crgc 1 nodes 1\nseed 0\nwake 0.0\nspawn 0.0\ndrop 0.0 0.1\nrest 0.0\nflush 0.0\nflush 0.1\n\
@@ -96,18 +100,67 @@ const A_MESSAGE_IS_LOST_IN_BRIEF: &str =
     "crgc 2 nodes 3\nnode 0 born 2 stopped 0\nnode 1 born 2 stopped 0\nnode 2 born 1 stopped 0\n\
      total born 5 stopped 0\n";
 
-/// With these words and this input: the number with which the program ends, and the bytes that were written.
-fn ended(alloc: Global, words: &[&str], input: &str) -> Result<(u8, Vec<u8>), Fail> {
+const TWO_WAKES: &str = "{\"nodes\":2,\"behaviours\":[{\"name\":\"idler\"}],\"seeds\":[\
+     {\"node\":0,\"behaviour\":\"idler\",\"wakes\":1},\
+     {\"node\":1,\"behaviour\":\"idler\",\"wakes\":1}],\"turns\":10}";
+
+/// How the call ends that needs no worker threads.
+fn called(
+    alloc: Global,
+    words: &[String],
+    source: &mut MemorySource,
+    sink: &mut MemorySink,
+) -> Result<Status, Fail> {
+    if wants_workers(words) {
+        return Err("words that want no workers".into());
+    }
+    Ok(plain_top(alloc, words, source, sink))
+}
+
+/// The words, each as a text of its own.
+fn texts(alloc: Global, words: &[&str]) -> Result<Vec<String>, Fail> {
     let mut said = Vec::new(alloc);
     for word in words {
         said.push(String::from_str(alloc, word)?)?;
     }
+    Ok(said)
+}
+
+/// With these words and this input: the number with which the program ends, and the bytes that were written.
+fn ended(alloc: Global, words: &[&str], input: &str) -> Result<(u8, Vec<u8>), Fail> {
+    let said = texts(alloc, words)?;
     let none = Vec::new(alloc);
     let mut source = MemorySource::new(input.as_bytes().to_vec(alloc)?, 7, none);
     let mut sink = MemorySink::new(alloc, 1000, 9, Vec::new(alloc))
         .ok()
         .ok_or("memory")?;
-    let status = plain_top(alloc, said.as_slice(), &mut source, &mut sink);
+    let status = called(alloc, said.as_slice(), &mut source, &mut sink)?;
+    Ok((status.exit_number(), sink.bytes().to_vec(alloc)?))
+}
+
+/// The same, where worker threads may run; the history is kept.
+fn ended_by_threads<G: Gate + Sync, R: Threads + Wait + Clock + Sync>(
+    rt: &R,
+    alloc: Global,
+    words: &[&str],
+    input: &str,
+    gate: &G,
+    kept: &mut Option<History>,
+) -> Result<(u8, Vec<u8>), Fail> {
+    let said = texts(alloc, words)?;
+    let mut source = MemorySource::new(input.as_bytes().to_vec(alloc)?, 7, Vec::new(alloc));
+    let mut sink = MemorySink::new(alloc, 4000, 9, Vec::new(alloc))
+        .ok()
+        .ok_or("memory")?;
+    let status = crgc_top(
+        rt,
+        alloc,
+        said.as_slice(),
+        &mut source,
+        &mut sink,
+        gate,
+        kept,
+    );
     Ok((status.exit_number(), sink.bytes().to_vec(alloc)?))
 }
 
@@ -236,7 +289,7 @@ fn an_input_that_is_too_long_passes_a_limit(rt: HostRuntime) -> Result<(), Fail>
     let mut sink = MemorySink::new(rt.alloc(), 100, 9, Vec::new(rt.alloc()))
         .ok()
         .ok_or("memory")?;
-    let status = plain_top(rt.alloc(), &words, &mut source, &mut sink);
+    let status = called(rt.alloc(), &words, &mut source, &mut sink)?;
     assert_eq!(rt; status.exit_number(), 6);
     assert_eq!(rt; sink.bytes(), b"fault 6 limit input\n".as_slice());
     Ok(())
@@ -247,7 +300,7 @@ fn other_words_are_refused_and_the_source_is_not_read(rt: HostRuntime) -> Result
     let cases = [
         ["play", "--help"],
         ["--brief", "play"],
-        ["run", "--workers=1"],
+        ["run", "--workers=33"],
         ["gen", "--seed=7"],
     ];
     for [command, option] in cases {
@@ -289,7 +342,7 @@ fn a_script_is_made_and_the_source_is_not_read(rt: HostRuntime) -> Result<(), Fa
         String::from_str(rt.alloc(), "--seed")?,
         String::from_str(rt.alloc(), "7")?,
     ];
-    let status = plain_top(rt.alloc(), &words, &mut source, &mut sink);
+    let status = called(rt.alloc(), &words, &mut source, &mut sink)?;
     assert_eq!(rt; status.exit_number(), 0);
     assert_eq!(rt; sink.bytes().len(), 1551);
     assert!(rt;
@@ -342,6 +395,60 @@ fn playing_begins_no_turn(rt: HostRuntime) -> Result<(), Fail> {
 }
 
 #[test]
+fn workers_run_a_script_to_a_report_that_replays_and_its_history_is_kept(
+    rt: HostRuntime,
+) -> Result<(), Fail> {
+    let gate = HoldGate::new(200_000_000);
+    let mut kept = None;
+    let words = ["run", "--workers", "2"];
+    let (number, report) = ended_by_threads(&rt, rt.alloc(), &words, TWO_WAKES, &gate, &mut kept)?;
+    assert_eq!(rt; number, 0);
+    assert!(rt; gate.met());
+    let Some(history) = kept else {
+        return Err("a history".into());
+    };
+    assert!(rt; history.len() >= 16);
+    let text = str::from_utf8(report.as_slice()).ok().ok_or("a text")?;
+    let (number, replayed) = ended(rt.alloc(), &["play"], text)?;
+    assert_eq!(rt; number, 0);
+    assert_eq!(rt; replayed.as_slice(), report.as_slice());
+    Ok(())
+}
+
+#[test]
+fn workers_tell_in_brief_what_the_fixed_schedule_tells(rt: HostRuntime) -> Result<(), Fail> {
+    let mut kept = None;
+    let words = ["run", "--brief", "--workers=4"];
+    let (number, report) = ended_by_threads(
+        &rt,
+        rt.alloc(),
+        &words,
+        A_MESSAGE_IS_LOST,
+        &QuietGate,
+        &mut kept,
+    )?;
+    assert_eq!(rt; number, 0);
+    assert_eq!(rt; report.as_slice(), A_MESSAGE_IS_LOST_IN_BRIEF.as_bytes());
+    assert!(rt; kept.is_some());
+    Ok(())
+}
+
+#[test]
+fn a_faulty_script_begins_no_turn_and_nothing_is_kept(rt: HostRuntime) -> Result<(), Fail> {
+    let gate = CountingGate {
+        turns: AtomicU64::new(0),
+    };
+    let mut kept = None;
+    let words = ["run", "--workers", "32"];
+    let (number, told) = ended_by_threads(&rt, rt.alloc(), &words, "{", &gate, &mut kept)?;
+    assert_eq!(rt; number, 3);
+    assert_eq!(rt; told.as_slice(), b"fault 3 json\n".as_slice());
+    assert_eq!(rt; gate.turns.load(Ordering::SeqCst), 0);
+    assert!(rt; kept.is_none());
+    Ok(())
+}
+
+#[test]
 fn a_failing_edge_is_told(rt: HostRuntime) -> Result<(), Fail> {
     let words = [String::from_str(rt.alloc(), "play")?];
     let header = b"crgc 1 nodes 1\n".to_vec(rt.alloc())?;
@@ -350,7 +457,7 @@ fn a_failing_edge_is_told(rt: HostRuntime) -> Result<(), Fail> {
     let mut sink = MemorySink::new(rt.alloc(), 100, 8, second)
         .ok()
         .ok_or("memory")?;
-    let status = plain_top(rt.alloc(), &words, &mut source, &mut sink);
+    let status = called(rt.alloc(), &words, &mut source, &mut sink)?;
     assert_eq!(rt; status.exit_number(), 5);
     assert_eq!(rt; sink.bytes(), b"crgc 1 n".as_slice());
     let first = [0].to_vec(rt.alloc())?;
@@ -358,7 +465,7 @@ fn a_failing_edge_is_told(rt: HostRuntime) -> Result<(), Fail> {
     let mut whole = MemorySink::new(rt.alloc(), 100, 8, Vec::new(rt.alloc()))
         .ok()
         .ok_or("memory")?;
-    let status = plain_top(rt.alloc(), &words, &mut broken, &mut whole);
+    let status = called(rt.alloc(), &words, &mut broken, &mut whole)?;
     assert_eq!(rt; status.exit_number(), 4);
     assert_eq!(rt; whole.bytes(), b"fault 4 read\n".as_slice());
     Ok(())

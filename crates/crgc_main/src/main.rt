@@ -1,8 +1,9 @@
 //! The program `crgc`: the top call over the words of the command line, standard input and standard output.
 #![tactic(auto)]
 
-ghost use Rattle.std.specs.Prelude.{◌≡◌, [], map, string_bytes};
-ghost use Rattle.cluster_top.specs.Outcome.{IsOutcome};
+ghost use Rattle.std.specs.Prelude.{◌≡◌, [], None, Option, map, string_bytes};
+ghost use Rattle.history_model.specs.Story.{Story};
+ghost use Rattle.cluster_top.specs.WorkersOutcome.{IsTopOutcome};
 ghost use Rattle.crgc_io.specs.Edges.{sink_faults, sink_inner, sink_taken, source_ended, source_faults, source_given, source_inner};
 
 use cluster_top::{Status, crgc_top};
@@ -15,6 +16,7 @@ use std::io::{ErrorKind, Read, Write};
 use std::process::ExitCode;
 use std::sync::Wait;
 use std::thread::Threads;
+use std::time::Clock;
 
 fn main(rt: HostRuntime) -> ExitCode {
     let mut source = StdSource::new(rt.stdin());
@@ -28,7 +30,7 @@ fn main(rt: HostRuntime) -> ExitCode {
 
 /// The program over any reader and writer, of which nothing was moved before: what the writes took is what the words ask for,
 /// made of what the reads gave. The edges record both.
-fn run<I: Read, O: Write, R: Threads + Wait + Sync>(
+fn run<I: Read, O: Write, R: Threads + Wait + Clock + Sync>(
     rt: &R,
     alloc: Global,
     words: &[String],
@@ -37,11 +39,12 @@ fn run<I: Read, O: Write, R: Threads + Wait + Sync>(
 ) -> Status
     requires given { source_given source.old ≡ [] }
     requires taken { sink_taken sink.old ≡ [] }
-    ensures { IsOutcome (λ s. I.remaining (source_inner s)) source_given source_ended source_faults
+    ensures { (kept : Option Story) × IsTopOutcome (λ s. I.remaining (source_inner s)) source_given source_ended source_faults
         (λ k. O.contents (sink_inner k)) sink_taken sink_faults (map string_bytes words.now)
-        source.old source.new sink.old sink.new result }
+        source.old source.new sink.old sink.new None kept result }
 {
-    crgc_top(rt, alloc, words, source, sink, &QuietGate, &mut None)
+    let mut kept = None;
+    crgc_top(rt, alloc, words, source, sink, &QuietGate, &mut kept)
 }
 
 // The words after the program's name; none where one of them is no text, since no words are no command either.

@@ -1,7 +1,10 @@
 //! Calls of the program over memory.
-use cluster_top::{Status, plain_top};
-use crgc_io::{MemorySink, MemorySource};
+use cluster_top::{Status, crgc_top};
+use crgc_io::{MemorySink, MemorySource, QuietGate};
 use std::alloc::{AllocError, Global};
+use std::sync::Wait;
+use std::thread::Threads;
+use std::time::Clock;
 
 /// How many bytes a read or a write moves at most.
 pub const PIECE: usize = 64;
@@ -26,6 +29,7 @@ pub struct Ending {
 
 /// The program is called with these words, and reads these bytes.
 pub fn call(
+    rt: &(impl Threads + Wait + Clock + Sync),
     alloc: Global,
     words: &[String],
     bytes: &[u8],
@@ -33,7 +37,16 @@ pub fn call(
 ) -> Result<Ending, AllocError> {
     let mut source = MemorySource::new(bytes.to_vec(alloc)?, PIECE, reads(alloc, failing)?);
     let mut sink = sink(alloc, failing)?;
-    let status = plain_top(alloc, words, &mut source, &mut sink);
+    let mut kept = None;
+    let status = crgc_top(
+        rt,
+        alloc,
+        words,
+        &mut source,
+        &mut sink,
+        &QuietGate,
+        &mut kept,
+    );
     let written = sink.bytes().to_vec(alloc)?;
     Ok(Ending { status, written })
 }

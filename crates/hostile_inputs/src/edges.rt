@@ -4,9 +4,16 @@ use crate::cases::Case;
 use crate::endings::tell_ending;
 use std::alloc::Global;
 use std::io;
+use std::sync::Wait;
+use std::thread::Threads;
+use std::time::Clock;
 
 /// Each read fails in turn, the one at the end too, and then one that does not come.
-pub fn tell_reads(rt: &impl Print, alloc: Global, case: &Case<'_>) -> io::Result<()> {
+pub fn tell_reads(
+    rt: &(impl Print + Threads + Wait + Clock + Sync),
+    alloc: Global,
+    case: &Case<'_>,
+) -> io::Result<()> {
     let name = case.name;
     for number in 0..pieces(case.bytes.len()).saturating_add(2) {
         print!(rt; "{name}, read {number} fails:")?;
@@ -16,9 +23,14 @@ pub fn tell_reads(rt: &impl Print, alloc: Global, case: &Case<'_>) -> io::Result
 }
 
 /// Each write fails in turn, and then one that does not come.
-pub fn tell_writes(rt: &impl Print, alloc: Global, case: &Case<'_>) -> io::Result<()> {
+pub fn tell_writes(
+    rt: &(impl Print + Threads + Wait + Clock + Sync),
+    alloc: Global,
+    case: &Case<'_>,
+) -> io::Result<()> {
     let name = case.name;
     let whole = call(
+        rt,
         alloc,
         case.words.as_slice(),
         case.bytes.as_slice(),

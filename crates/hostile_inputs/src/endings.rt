@@ -4,10 +4,17 @@ use crate::cases::Case;
 use cluster_top::Status;
 use md5::{Digest, Md5};
 use std::alloc::Global;
+use std::sync::Wait;
+use std::thread::Threads;
+use std::time::Clock;
 use std::{io, str};
 
 /// How the call with the case's words and bytes ended.
-pub fn tell_call(rt: &impl Print, alloc: Global, case: &Case<'_>) -> io::Result<()> {
+pub fn tell_call(
+    rt: &(impl Print + Threads + Wait + Clock + Sync),
+    alloc: Global,
+    case: &Case<'_>,
+) -> io::Result<()> {
     let name = case.name;
     print!(rt; "{name}:")?;
     tell_ending(rt, alloc, case, Failing::Nothing)
@@ -15,12 +22,13 @@ pub fn tell_call(rt: &impl Print, alloc: Global, case: &Case<'_>) -> io::Result<
 
 /// How the call ended in which this read or write fails.
 pub fn tell_ending(
-    rt: &impl Print,
+    rt: &(impl Print + Threads + Wait + Clock + Sync),
     alloc: Global,
     case: &Case<'_>,
     failing: Failing,
 ) -> io::Result<()> {
     let Ending { status, written } = call(
+        rt,
         alloc,
         case.words.as_slice(),
         case.bytes.as_slice(),

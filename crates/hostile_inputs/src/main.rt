@@ -12,6 +12,9 @@ mod endings;
 use cases::Case;
 use std::alloc::Global;
 use std::io::{self, BufRead, BufReader};
+use std::sync::Wait;
+use std::thread::Threads;
+use std::time::Clock;
 
 fn main(rt: HostRuntime) -> io::Result<()> {
     for line in BufReader::new(rt.alloc(), rt.reader())?.lines(rt.alloc()) {
@@ -21,7 +24,11 @@ fn main(rt: HostRuntime) -> io::Result<()> {
 }
 
 /// What comes of the line's case.
-fn tell_line(rt: &impl Print, alloc: Global, line: &str) -> io::Result<()> {
+fn tell_line(
+    rt: &(impl Print + Threads + Wait + Clock + Sync),
+    alloc: Global,
+    line: &str,
+) -> io::Result<()> {
     match line.split_once('|') {
         Some((asked, text)) => tell_case(rt, alloc, &Case::read(alloc, asked, text)?),
         None => println!(rt; "{line}"),
@@ -29,7 +36,11 @@ fn tell_line(rt: &impl Print, alloc: Global, line: &str) -> io::Result<()> {
 }
 
 /// What comes of the case.
-fn tell_case(rt: &impl Print, alloc: Global, case: &Case<'_>) -> io::Result<()> {
+fn tell_case(
+    rt: &(impl Print + Threads + Wait + Clock + Sync),
+    alloc: Global,
+    case: &Case<'_>,
+) -> io::Result<()> {
     match case.kind {
         "crgc" => endings::tell_call(rt, alloc, case),
         "reads" => edges::tell_reads(rt, alloc, case),

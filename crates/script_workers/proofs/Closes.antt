@@ -1,5 +1,5 @@
 -- How a history that is made anew, event by event, goes on to its closing round.
-use Rattle.std.proofs.Common.{◌≡◌, ◌<◌, ◌++◌, ℕ, Bool, true, List, [], ◌∷◌, append_assoc, append-nil, arith, drop, length, slice_get, Option, Some, None, refl, sym, ◌∙◌, ap, subst, inl, inr}
+use Rattle.std.proofs.Common.{◌≡◌, ◌<◌, ◌++◌, Bool, true, List, [], ◌∷◌, append_assoc, append-nil, arith, drop, length, slice_get, Option, Some, None, sym, ◌∙◌, ap, subst, inl, inr}
 use Rattle.std.specs.Prelude.{IfErr, Result, Ok, Err}
 use Rattle.std.proofs.lemmas.Option.{none-some, same_Some}
 use Rattle.crgc_ids.specs.declared.Which.{Which}
@@ -14,7 +14,7 @@ use Rattle.journal_model.specs.Lines.{AreWithinRanges, IsWithinRanges}
 use Rattle.journal_model.specs.Verdicts.{report_text}
 use Rattle.script_reader.specs.Valid.{Scripted}
 use Rattle.run_model.specs.Doing.{cluster_of}
-use Rattle.run_model.specs.Follows.{CouldPass, Follows, IsClosing, IsRun, IsUnfinished, is_over}
+use Rattle.run_model.specs.Follows.{IsClosing, IsRun, is_over}
 use Rattle.run_model.specs.Round.{round}
 use Rattle.run_model.specs.Schedule.{IsWithinLimits}
 use Rattle.run_model.proofs.RoundQuiet.{round-more}

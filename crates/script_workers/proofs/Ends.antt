@@ -22,7 +22,6 @@ use Rattle.run_model.specs.Schedule.{IsWithinLimits}
 use Rattle.operation_model.specs.declared.operations.Op.{Op}
 use Rattle.operation_model.specs.declared.operations.Op.TheVariants as ops
 use Rattle.operation_model.specs.declared.replies.Halt.{Halt}
-use Rattle.operation_model.specs.declared.replies.Halt.TheVariants.{Limit}
 use Rattle.operation_model.specs.declared.replies.Reply.{Reply}
 use Rattle.operation_model.specs.declared.replies.Reply.TheVariants as replies
 use Rattle.operation_model.specs.Answers.{IsCourse, IsGranted, IsReply, MayAnswer, Refusal, Unless, act_reply, first_refusal, nodes_of, refusals, refused, unknown}

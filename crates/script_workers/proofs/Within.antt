@@ -2,7 +2,7 @@
 use Rattle.std.proofs.Common.{◌≡◌, ◌==◌, ◌+◌, ◌<◌, ◌≤◌, ℕ, suc, Bool, true, false, cond, nat_le, List, [], ◌∷◌, length, map, Option, Some, None, refl, sym, ◌∙◌, ap, subst, arith, inl, inr}
 use Rattle.std.proofs.lemmas.Bool.Decides.{nat_tests}
 use Rattle.history_model.specs.declared.events.Event.{Event}
-use Rattle.history_model.specs.declared.events.Event.TheVariants.{Seed, Spawn, Tie}
+use Rattle.history_model.specs.declared.events.Event.TheVariants.{Seed, Spawn}
 use Rattle.history_model.specs.Cluster.{Cluster, births}
 use Rattle.history_model.specs.Rows.{onto}
 use Rattle.journal_model.specs.Limits.{limit_passed}

@@ -1,7 +1,6 @@
 -- What the closing round comes to.
-use Rattle.std.specs.Prelude.{◌≡◌, Bool, List, [], ◌∷◌, ℕ}
+use Rattle.std.specs.Prelude.{◌≡◌, Bool, List, [], ◌∷◌}
 use Rattle.history_model.specs.declared.events.Event.{Event}
-use Rattle.history_model.specs.Cluster.{Cluster}
 use Rattle.history_model.specs.Story.{Story}
 use Rattle.journal_model.specs.Verdicts.{report_text}
 use Rattle.run_model.specs.Round.{round}

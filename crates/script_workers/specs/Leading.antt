@@ -1,13 +1,14 @@
--- Workers of a lock over a cluster, and the pass that leads them.
-use Rattle.std.specs.Prelude.{ℕ, ◌≡◌, ◌+◌, ◌<◌, ◌^◌, Bool, true, false, List, length}
+-- The crew of a lock over a cluster, and the pass that leads it.
+use Rattle.std.specs.Prelude.{ℕ, ◌≡◌, ◌+◌, ◌<◌, ◌≤◌, ◌^◌, Bool, true, false, List, [], length}
 use Rattle.std.specs.List.{list_any}
 use Rattle.behaviour_lang.specs.declared.code.Behaviour.{Behaviour}
 use Rattle.turn_lock.specs.Known.{Known, Made}
 use Rattle.operation_model.specs.declared.operations.Op.{Op}
 use Rattle.operation_model.specs.declared.replies.Reply.{Reply}
 use Rattle.operation_model.specs.declared.replies.Reply.TheVariants.{AllDone, Halted}
-use Rattle.operation_model.specs.Openings.{IsSoundOpening}
+use Rattle.operation_model.specs.Openings.{IsNew, IsSoundOpening}
 use Rattle.operation_model.specs.Turns.{Calls}
+use Rattle.script_workers.specs.declared.threads.Crew.{Crew}
 use Rattle.world_object.specs.State.{ClusterState, as_opening}
 
 -- nothing was left to do, or the cluster had halted
@@ -20,27 +21,51 @@ ends_work r = false
 abbrev pub has_end : Calls → Bool
 has_end calls = list_any (λ e. ends_work e.reply) calls
 
--- the pass is one of the lock, which was made with a sound cluster; the code is that cluster's
-pub record MayWork (lock : Made ClusterState) (code : List Behaviour) (pass : Known ClusterState Op Reply) : Type 0 where
+-- the pass is one of the lock, which was made with a sound cluster
+pub record IsOfSound (lock : Made ClusterState) (pass : Known ClusterState Op Reply) : Type 0 where
   pub lock_is : pass.origin ≡ lock.origin
   pub sound : IsSoundOpening (as_opening lock.start)
-  pub code_is : code ≡ (let c = lock.start in let s = c.script in s.code)
 
--- the pass is the first one of the lock, and may split so many more
-pub record MayLead (lock : Made ClusterState) (code : List Behaviour) (workers : ℕ) (pass : Known ClusterState Op Reply) : Type 0 where
-  pub may : MayWork lock code pass
+-- and with a new one of a script with so many nodes
+pub record IsOfNew (lock : Made ClusterState) (nodes : ℕ) (pass : Known ClusterState Op Reply) : Type 0 where
+  pub of_sound : IsOfSound lock pass
+  pub new : IsNew (as_opening lock.start)
+  pub nodes_are : (let c = lock.start in let s = c.script in s.nodes) ≡ nodes
+  pub few : nodes ≤ 16
+
+-- and the pass has made no call
+pub record MayServeNodes (lock : Made ClusterState) (nodes : ℕ) (pass : Known ClusterState Op Reply) : Type 0 where
+  pub of_new : IsOfNew lock nodes pass
+  pub none : pass.own ≡ []
+
+-- it is the number of one of the crew
+abbrev pub IsOfCrew : Crew → ℕ → Type 0
+IsOfCrew crew number = number < crew.workers + (crew.nodes + crew.nodes)
+
+-- the pass may serve for the one of the crew with this number; the code is the cluster's
+pub record MayServe (lock : Made ClusterState) (code : List Behaviour) (crew : Crew) (number : ℕ) (pass : Known ClusterState Op Reply) : Type 0 where
+  pub may : MayServeNodes lock crew.nodes pass
+  pub code_is : code ≡ (let c = lock.start in let s = c.script in s.code)
+  pub crew_has : IsOfCrew crew number
+
+-- the pass is the first one of the lock, and may split so many more, for the first of a crew with some worker
+pub record MayLead (lock : Made ClusterState) (code : List Behaviour) (crew : Crew) (count : ℕ) (pass : Known ClusterState Op Reply) : Type 0 where
+  pub of_new : IsOfNew lock crew.nodes pass
+  pub code_is : code ≡ (let c = lock.start in let s = c.script in s.code)
   pub first : pass.number ≡ 0
-  pub room : pass.split + workers < 2 ^ 32
+  pub room : pass.split + count < 2 ^ 32
+  pub some : 0 < crew.workers
+  pub crew_has : count ≤ crew.workers + (crew.nodes + crew.nodes)
 
 -- so many passes more were split from it and are joined; where there are any, one of them came to an end
-pub record HasLed (workers : ℕ) (old new : Known ClusterState Op Reply) : Type 0 where
+pub record HasLed (count : ℕ) (old new : Known ClusterState Op Reply) : Type 0 where
   pub lock_is : new.origin ≡ old.origin
   pub number : new.number ≡ old.number
-  pub split : new.split ≡ old.split + workers
-  pub joined : length new.joined ≡ length old.joined + workers
-  pub ended : 0 < workers → has_end new.gathered ≡ true
+  pub split : new.split ≡ old.split + count
+  pub joined : length new.joined ≡ length old.joined + count
+  pub ended : 0 < count → has_end new.gathered ≡ true
 
--- the pass has worked to an end
-pub record HasWorked (old new : Known ClusterState Op Reply) : Type 0 where
+-- the pass has served; that of a worker came to an end
+pub record HasServed (crew : Crew) (number : ℕ) (old new : Known ClusterState Op Reply) : Type 0 where
   pub lock_is : new.origin ≡ old.origin
-  pub ended : has_end new.own ≡ true
+  pub ended : number < crew.workers → has_end new.own ≡ true

@@ -2,6 +2,7 @@
 #![tactic(auto)]
 
 mod closing;
+mod collecting;
 mod fault;
 mod runs;
 mod threads;

@@ -8,7 +8,7 @@ ghost use Rattle.script_workers.specs.Ended.{IsFinishedRun, IsWorked, IsWorkersF
 
 use crate::closing::close_run;
 use crate::fault::WorkersFault;
-use crate::threads::work_all;
+use crate::threads::{Crew, serve_all};
 use crgc_ids::{NoMemory, Which};
 use crgc_io::Gate;
 use history_model::History;
@@ -17,6 +17,7 @@ use script_reader::Script;
 use std::alloc::Global;
 use std::sync::Wait;
 use std::thread::Threads;
+use std::time::Clock;
 use true_config::World;
 use turn_lock::TurnLock;
 use world_object::{Cluster, Shared};
@@ -30,7 +31,7 @@ pub struct Finished {
 
 /// The report, in brief or in full, of the history that so many workers make of the script, with the round that closes it; or why
 /// there is none. The gate is told of each turn as it begins. May wait.
-pub fn run<G: Gate + Sync, R: Threads + Wait + Sync>(
+pub fn run<G: Gate + Sync, R: Threads + Wait + Clock + Sync>(
     rt: &R,
     alloc: Global,
     script: Script,
@@ -70,7 +71,7 @@ fn end_run(
 }
 
 /// The world that so many workers make of the script before the closing round; and the limit at which they halted, if they did.
-fn run_turns<G: Gate + Sync, R: Threads + Wait + Sync>(
+fn run_turns<G: Gate + Sync, R: Threads + Wait + Clock + Sync>(
     rt: &R,
     alloc: Global,
     script: Script,
@@ -82,11 +83,16 @@ fn run_turns<G: Gate + Sync, R: Threads + Wait + Sync>(
     ensures { IfOk result (λ r. IsWorked script r.0 r.1) }
 {
     let code = script.code.copy(alloc)?;
+    let crew = Crew {
+        workers,
+        nodes: script.nodes,
+    };
+    let count = workers.saturating_add(2 * u32::from(crew.nodes));
     let cluster = Cluster::new(alloc, script)?;
     cluster.is_sound();
     match TurnLock::<Shared>::new(alloc, cluster) {
         Ok((lock, first)) => {
-            let first = work_all(rt, alloc, &lock, first, &code, gate, workers);
+            let first = serve_all(rt, alloc, &lock, first, &code, gate, crew, count);
             world_of(lock.close(first))
         }
         Err((_, want)) => Err(want),

@@ -9,6 +9,7 @@ use std::alloc::Global;
 use std::sync::Wait;
 use std::test::Fail;
 use std::thread::Threads;
+use std::time::Clock;
 
 const TWO_WAKES: &str =
     "{\"nodes\":2,\"behaviours\":[{\"name\":\"idler\"}],\"seeds\":[{\"node\":0,\"behaviour\":\"idler\",\"wakes\":1},\
@@ -24,7 +25,7 @@ const MAKER_FRIEND_POKE: &str =
      \"turns\":100}";
 
 // What so many workers make of a script, in brief.
-fn finished<G: Gate + Sync, R: Threads + Wait + Sync>(
+fn finished<G: Gate + Sync, R: Threads + Wait + Clock + Sync>(
     rt: &R,
     alloc: Global,
     text: &str,
@@ -67,7 +68,11 @@ fn two_workers_are_in_their_turns_at_once(rt: HostRuntime) -> Result<(), Fail> {
 }
 
 // The report that so many workers make of the script with a crash.
-fn report_of<R: Threads + Wait + Sync>(rt: &R, alloc: Global, workers: u32) -> Result<Vec<u8>, Fail>
+fn report_of<R: Threads + Wait + Clock + Sync>(
+    rt: &R,
+    alloc: Global,
+    workers: u32,
+) -> Result<Vec<u8>, Fail>
     requires { 0 < workers }
 {
     match finished(rt, alloc, MAKER_FRIEND_POKE, workers, &QuietGate) {

@@ -30,8 +30,10 @@ const SERVING: usize = 2;
 
 const SLOT: usize = 0;
 
-// How often a pass that is next looks before it sleeps.
-const LOOKS: u32 = 100;
+// How many places behind a pass is at most that looks before it sleeps, and how often it looks.
+const NEAR: u64 = 8;
+
+const LOOKS: u32 = 1000;
 
 /// A lock whose passes keep a history. Contracts see which lock it is, as its passes do, and with what state it was made.
 #[derive(Drop)]
@@ -171,7 +173,7 @@ impl<O: Object> TurnLock<O> {
         reply
     }
 
-    // Until the ticket is served. Only who is next looks again and again for a while, and sleeps then too.
+    // Until the ticket is served. Only who is a few places behind looks again and again for a while, and sleeps then too.
     fn wait<R: Wait>(&self, rt: &R, seat: &mut SeatOf<O>, ticket: u64)
         requires lock { seat.old.table_id ≡ self.now.origin.table }
         requires waits { IsWaiting ticket seat.old.me }
@@ -185,7 +187,7 @@ impl<O: Object> TurnLock<O> {
             if serving == ticket {
                 return;
             }
-            if looks < LOOKS && serving.wrapping_add(1) == ticket {
+            if looks < LOOKS && ticket.wrapping_sub(serving) <= NEAR {
                 looks += 1;
                 spin_loop();
             } else {

@@ -1,4 +1,4 @@
-use Rattle.std.proofs.Common.{◌≡◌, sym, ◌∙◌, ap, subst}
+use Rattle.std.proofs.Common.{◌≡◌, ◌<◌, sym, ◌∙◌, ap, arith, subst}
 use Rattle.std.specs.Prelude.{IfOk}
 use Rattle.script_reader.specs.Valid.{IsScript}
 use Rattle.operation_model.specs.Openings.{IsNew}
@@ -10,10 +10,12 @@ use Rattle.script_workers.proofs.runs.run_turns.Goals as goal
 pub returns-in-Ok : goal.returns-in-Ok
 returns-in-Ok g c =
     let start = c.in-Ok.lock.start in
-    let p = c.work_all-first.result in
+    let p = c.serve_all-first.result in
     let begun = c.in-Ok.ensures.ok.0 in
     let same : start.script ≡ c.args.script = ap (λ (x : ClusterState). x.script) begun ∙ c.in_ok-cluster.ensures.script in
-    let found = made-end _ p.seen c.close.ensures.calls (end-later p.own p.gathered (c.work_all-first.ensures.ended c.requires.some)) in
+    let count = c.saturating_add-count in
+    let some : 0 < count.result = omega (arith, c.requires.some, count.ensures) in
+    let found = made-end _ p.seen c.close.ensures.calls (end-later p.own p.gathered (c.serve_all-first.ensures.ended some)) in
     subst (λ s. IfOk c.world_of.result (λ r. IsWorked s r.0 r.1)) same
     (worked-of start c.close.result p.seen (subst IsScript (sym same) c.requires.script)
     (subst (λ (x : ClusterState). IsNew (as_opening x)) (sym begun) c.in_ok-cluster.ensures.new) c.close.ensures.stands found

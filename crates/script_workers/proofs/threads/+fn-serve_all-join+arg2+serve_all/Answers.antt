@@ -1,5 +1,4 @@
 use mathlib.Core.List.{[], ◌∷◌}
-use denote.RattleType.{RattleType}
 use denote.Ref.{ShrRef}
 use denote.Param.{param}
 use denote.Struct.Field.{u32-field}
@@ -8,19 +7,23 @@ use Rattle.std.proofs.Crossing.{crosses, send}
 use Rattle.std.specs.contracts.alloc.Global as Heap
 use Rattle.behaviour_lang.specs.contracts.code.Code as Code
 use Rattle.turn_lock.proofs.Crossing.{captures_send}
+use Rattle.script_workers.specs.contracts.threads.Crew as Crew
 use Rattle.script_workers.proofs.Crossing.{lock, moved, pass, shared}
-use Rattle.script_workers.proofs.threads.+fn-work_all-join+arg2+work_all.Goals as goal
+use Rattle.script_workers.proofs.threads.+fn-serve_all-join+arg2+serve_all.Goals as goal
 
 code_sync : IsSync Code.the_row
 code_sync = search (crosses, sendable) depth 60 fits 100000
+
+crew_send : IsSend Crew.the_row
+crew_send = search sendable depth 20
 
 u32_send : IsSend u32-field.row
 u32_send = search sendable depth 20
 
 pub join-first-requires-send-F : goal.join-first-requires-send-F
 join-first-requires-send-F g t c κs h =
-    captures_send 1 _ _ (ShrRef _ _ (param 1 g.row.R) ∷ Heap.the_row ∷ ShrRef _ _ lock ∷ pass ∷ ShrRef _ _ Code.the_row ∷ ShrRef _ _ (param 0 g.row.G) ∷ u32-field.row ∷ [])
-    (shr_send _ _ _ c.requires.shared.0, (send, (shr_send _ _ _ shared, (moved, (shr_send _ _ _ code_sync, (shr_send _ _ _ c.requires.shared.1, (u32_send, tt)))))))
+    captures_send 1 _ _ (ShrRef _ _ (param 1 g.row.R) ∷ Heap.the_row ∷ ShrRef _ _ lock ∷ pass ∷ ShrRef _ _ Code.the_row ∷ ShrRef _ _ (param 0 g.row.G) ∷ Crew.the_row ∷ u32-field.row ∷ [])
+    (shr_send _ _ _ c.requires.shared.0, (send, (shr_send _ _ _ shared, (moved, (shr_send _ _ _ code_sync, (shr_send _ _ _ c.requires.shared.1, (crew_send, (u32_send, tt))))))))
 
 pub join-first-requires-send-A : goal.join-first-requires-send-A
 join-first-requires-send-A g t c κs h = search (sendable, moved) depth 40
