@@ -45,7 +45,8 @@ pub fn greatest_part_grows<T>()
 
 /// A node is removed exactly where some link leads from it, and the removed nodes rise.
 pub fn removed_nodes_are_sources()
-    ensures sources { (n : ℕ) (links : List (ℕ × ℕ)) (s : ℕ) → IsAmong s (removed_nodes n links) ↔ ((s < n) × ((d : ℕ) × IsAmong (s, d) links)) }
+    ensures sources { (n : ℕ) (links : List (ℕ × ℕ)) (s : ℕ)
+        → IsAmong s (removed_nodes n links) ↔ ((s < n) × ((d : ℕ) × IsAmong (s, d) links)) }
     ensures rising { (n : ℕ) (links : List (ℕ × ℕ)) → IsRising ◌<◌ (removed_nodes n links) }
 {}
 

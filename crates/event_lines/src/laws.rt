@@ -32,7 +32,9 @@ pub fn a_word_is_refused_where_no_form_has_it()
 
 /// A line has words too much only where a space and more follow the spelling of a line.
 pub fn words_too_much_follow_a_line()
-    ensures { (bytes : List ℕ) → read_line bytes ≡ Err Extra → (l : Line) × (more : List ℕ) × IsPrintable l × (bytes ≡ spelling l ++ 32 ∷ more) }
+    ensures { (bytes : List ℕ)
+        → read_line bytes ≡ Err Extra
+        → (l : Line) × (more : List ℕ) × IsPrintable l × (bytes ≡ spelling l ++ 32 ∷ more) }
 {}
 
 /// No line that may be printed has a line feed in it, and no header has.

@@ -71,7 +71,9 @@ fn append_link(
     second: NodeId,
     number: u32,
 ) -> Result<(), NoMemory>
-    ensures ok { OnOk result (out.new.items ≡ out.old.items ++ (spell (name.now ∷ decimal first ∷ decimal second ∷ decimal number ∷ []) ++ 10 ∷ [])) }
+    ensures ok { OnOk result
+        (out.new.items
+        ≡ out.old.items ++ (spell (name.now ∷ decimal first ∷ decimal second ∷ decimal number ∷ []) ++ 10 ∷ [])) }
     ensures err { OnErr result (out.new.items ≡ out.old.items) }
 {
     let words = [

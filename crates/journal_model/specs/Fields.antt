@@ -28,7 +28,9 @@ first_number limit words = option_and_then (number_of limit) (slice_get words 0)
 abbrev pub actor_of_parts : List (List ℕ) → Option Actor
 actor_of_parts parts =
     option_and_then
-    (λ n. option_and_then (λ s. option_map (λ _. record { node = n; serial = s }) (nothing_left (drop 1 (drop 1 parts)))) (first_number MOST_ACTORS (drop 1 parts)))
+    (λ n. option_and_then
+    (λ s. option_map (λ _. record { node = n; serial = s }) (nothing_left (drop 1 (drop 1 parts))))
+    (first_number MOST_ACTORS (drop 1 parts)))
     (first_number 16 parts)
 
 -- the actor that is spelled so: its node and its serial on the two sides of the one dot

@@ -36,7 +36,8 @@ final_too_wide cl d s h e = ap (nat_lt 200000) e
 actors_first : (cl : Cluster) (e : Event) (h : List Event) → passes_actors e h ≡ true → limit_passed cl e h ≡ Some Actors
 actors_first cl e h passes = rw passes refl
 
-delta_second : (cl : Cluster) (e : Event) (h : List Event) → passes_actors e h ≡ false → passes_delta cl e h ≡ true → limit_passed cl e h ≡ Some Delta
+delta_second : (cl : Cluster) (e : Event) (h : List Event) → passes_actors e h ≡ false → passes_delta cl e h ≡ true
+    → limit_passed cl e h ≡ Some Delta
 delta_second cl e h within passes = rw (within, passes) refl
 
 one_event_more : (cl : Cluster) (e : Event) (h : List Event) → passes_actors e h ≡ false → passes_delta cl e h ≡ false → length h ≡ 1000000

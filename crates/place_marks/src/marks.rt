@@ -99,8 +99,8 @@ impl Marks {
         self.order.clear();
     }
 
-    /// There is room for a mark at each place of the graph, in two rounds; the marks stay. After `NoMemory` all is as before. Linear time in the
-    /// number of places.
+    /// There is room for a mark at each place of the graph, in two rounds; the marks stay. After `NoMemory` all is as before. Linear
+    /// time in the number of places.
     pub fn reserve<G: PlaceGraph>(&mut self, graph: &G) -> Result<(), NoMemory>
         ensures room { OnOk result (length self.new.marks ≡ max (length self.old.marks) (G.graph graph.now).places) }
         ensures marks { (p : ℕ) → is_marked self.new p ≡ is_marked self.old p }

@@ -72,7 +72,8 @@ pub record IsActedOut (start : List Event) (a : Actor) (d : Driver) (t : TurnSta
 pub record HasRested (a : Actor) (before : List Event) (d : Driver) : Type 0 where
   pub stands : Stands d
   pub last : d.course.past ≡ Rest a ∷ before
-  pub crash : (n : ℕ) → crash_due d.script.value (Rest a ∷ before) ≡ Some n → refusal (cluster_of d.script.value) (Crash n) (Rest a ∷ before) ≡ None
+  pub crash : (n : ℕ) → crash_due d.script.value (Rest a ∷ before) ≡ Some n
+      → refusal (cluster_of d.script.value) (Crash n) (Rest a ∷ before) ≡ None
 
 -- the event is an act of a that gives birth to nobody
 abbrev pub IsPlainAct : Actor → Event → Type 0
