@@ -27,6 +27,10 @@ module _ {S P R : Type 0} where
   hands_on st m r n = (room : Room S P R) (last : Last P R) → m.1 ≡ (0, room) ∷ [] → room.last ≡ Some last
       → n ≡ (called m.0 last.op.value last.reply.value, [])
 
+  -- the seat is as before
+  abbrev pub rings : Told S P R
+  rings st m r n = n ≡ m
+
   -- of the two histories of the last join, one begins the other
   abbrev pub compares : Told S P R
   compares st m r n = (n ≡ m) × Begins m.0.heard m.0.seen

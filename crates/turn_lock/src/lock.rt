@@ -1,4 +1,4 @@
-//! The lock: one table of three words and one slot.
+//! The lock: one table of words and one slot.
 ghost use Rattle.std.specs.Prelude.{◌≡◌, ◌+◌, ◌^◌, ◌<◌, List, [], ◌∷◌, ◌++◌, length, IfOk, IfErr};
 ghost use Rattle.turn_lock.specs.History.{entry, calls_of, Begins, IsMadeOf, IsProper};
 ghost use Rattle.turn_lock.specs.Idle.{IsIdle};
@@ -11,7 +11,7 @@ ghost use Rattle.turn_lock.specs.declared.object.Entry.{Entry};
 use crate::object::Object;
 use crate::pass::Pass;
 use crate::rule::{
-    Compare, Give, HandOn, Last, Look, Number, OneHistory, Room, SeatOf, TakeIn, Ticket, View,
+    Compare, Give, HandOn, Last, Look, Number, OneHistory, Ring, Room, SeatOf, TakeIn, Ticket, View,
 };
 use atomic_table::{Refused, Table};
 use crgc_ids::NoMemory;
@@ -21,17 +21,21 @@ use std::marker::Model;
 use std::snapshot::Snapshot;
 use std::sync::Wait;
 
-// The words of the table.
+// The words of the table: three, and then the bells, of which each ticket has one to sleep on.
 const PASSES: usize = 0;
 
 const TICKETS: usize = 1;
 
 const SERVING: usize = 2;
 
+const BELLS: usize = 64;
+
+const WORDS: usize = SERVING + 1 + BELLS;
+
 const SLOT: usize = 0;
 
 // How many places behind a pass is at most that looks before it sleeps, and how often it looks.
-const NEAR: u64 = 8;
+const NEAR: u64 = 4;
 
 const LOOKS: u32 = 1000;
 
@@ -55,7 +59,9 @@ impl<O: Object> Model for TurnLock<O> {
 
     ghost view = { λ l. made l.table.shared.table_id l.table.shared.key.value };
 
-    ghost invariant = { λ l. (l.table.shared.table_id.words ≡ 3) × (l.table.shared.table_id.slots ≡ 1) };
+    ghost use Rattle.turn_lock.specs.declared.lock.TheConstants.{WORDS};
+
+    ghost invariant = { λ l. (l.table.shared.table_id.words ≡ WORDS) × (l.table.shared.table_id.slots ≡ 1) };
 }
 
 impl<O: Object> TurnLock<O> {
@@ -75,7 +81,9 @@ impl<O: Object> TurnLock<O> {
             slots.destroy_empty();
             return Err((state_of(value), NoMemory));
         }
-        match Table::new(alloc, &[1, 0, 0], slots, &start) {
+        let mut words = [0; WORDS];
+        words[PASSES] = 1;
+        match Table::new(alloc, &words, slots, &start) {
             Ok((table, seat)) => Ok((TurnLock { table }, Pass { number: 0, seat })),
             Err(Refused { mut slots }) => {
                 let Some(room) = slots.pop() else {
@@ -105,9 +113,10 @@ impl<O: Object> TurnLock<O> {
     /// Makes one call of an operation that fits after what the pass has seen, and answers what the object replies.
     /// What the pass has seen then begins with what it had seen, goes on with calls of others, and ends with this one.
     ///
-    /// Calls are served in the order of the tickets that they draw. A pass that is next looks for its turn a hundred
-    /// times; it sleeps after that, and so does a pass that is further behind, at once. Each call costs two atomic
-    /// additions and a look, and wakes all that sleep where a later ticket is drawn.
+    /// Calls are served in the order of the tickets that they draw. A pass at most `NEAR` places behind looks for its turn,
+    /// up to `LOOKS` times in a call; it sleeps after that, and so does a pass that is further behind, at once. Each call
+    /// costs two atomic additions and two or three looks. It wakes the pass that is next, if that one sleeps or is about
+    /// to, and no other but where more than `BELLS` passes wait: a sleep and a wake cost a swap and a system call each.
     pub fn call<R: Wait>(&self, rt: &R, pass: &mut Pass<O>, op: O::Op) -> O::Reply
         requires lock { pass.old.origin ≡ self.now.origin }
         requires fits { O.fits self.now.start pass.old.seen op pass.old.number }
@@ -169,11 +178,14 @@ impl<O: Object> TurnLock<O> {
         self.wait(rt, seat, ticket);
         let reply = self.make(seat, pass, op);
         shared.fetch_add::<HandOn>(seat, SERVING, 1);
-        self.wake_others(ticket);
+        self.wake_next(seat, ticket);
         reply
     }
 
-    // Until the ticket is served. Only who is a few places behind looks again and again for a while, and sleeps then too.
+    // Until the ticket is served. A pass that is a few places behind looks again and again for a while. Else it sets its bell to its own
+    // sign, looks once more, and sleeps while the bell has that sign: what was handed on before the look, it sees, and whoever hands on
+    // later finds a bell that is not 0. Passes with one bell have different signs, since one whose bell was set back already could sleep
+    // on the sign of another.
     fn wait<R: Wait>(&self, rt: &R, seat: &mut SeatOf<O>, ticket: u64)
         requires lock { seat.old.table_id ≡ self.now.origin.table }
         requires waits { IsWaiting ticket seat.old.me }
@@ -181,17 +193,24 @@ impl<O: Object> TurnLock<O> {
         ensures took { Took O.fits O.stands seat.old.me seat.new.me }
     {
         let shared = &self.table.shared;
+        let bell = bell_of(ticket);
+        let sign = (ticket % (1 << 32)) as u32 | 1;
         let mut looks = 0;
+        let mut is_set = false;
         for _ in rt.forever() {
             let serving = shared.load::<Look<O>>(seat, SERVING);
             if serving == ticket {
                 return;
             }
-            if looks < LOOKS && ticket.wrapping_sub(serving) <= NEAR {
+            if is_set {
+                shared.park(rt, bell, sign);
+                is_set = false;
+            } else if looks < LOOKS && ticket.wrapping_sub(serving) <= NEAR {
                 looks += 1;
                 spin_loop();
             } else {
-                shared.park(rt, SERVING, (serving % (1 << 32)) as u32);
+                shared.swap::<Ring>(seat, bell, sign as u64);
+                is_set = true;
             }
         }
         unreachable!()
@@ -214,13 +233,26 @@ impl<O: Object> TurnLock<O> {
         reply
     }
 
-    // A pass that draws its ticket later sees that this one was served.
-    fn wake_others(&self, ticket: u64) {
+    // Wakes the pass with the next ticket, where its bell is set. One that draws that ticket or sets the bell later sees that it is served.
+    fn wake_next(&self, seat: &mut SeatOf<O>, ticket: u64)
+        requires lock { seat.old.table_id ≡ self.now.origin.table }
+        ensures seat { (seat.new.table_id ≡ seat.old.table_id) × (seat.new.me ≡ seat.old.me) }
+    {
         let shared = &self.table.shared;
-        if shared.peek(TICKETS) != ticket.wrapping_add(1) {
-            shared.wake_all(SERVING);
+        let next = ticket.wrapping_add(1);
+        let bell = bell_of(next);
+        if shared.peek(TICKETS) != next && shared.peek(bell) != 0 {
+            shared.swap::<Ring>(seat, bell, 0);
+            shared.wake_all(bell);
         }
     }
+}
+
+// The word that a pass with this ticket sleeps on.
+fn bell_of(ticket: u64) -> usize
+    ensures { (SERVING < result) × (result < WORDS) }
+{
+    SERVING + 1 + (ticket % BELLS as u64) as usize
 }
 
 fn state_of<S, P, R>(room: Room<S, P, R>) -> S

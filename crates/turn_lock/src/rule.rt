@@ -126,3 +126,12 @@ impl<S, P, R> Play<Room<S, P, R>, View<S, P, R>> for HandOn {
 
     ghost then = { hands_on };
 }
+
+// A bell is set, or set back.
+pub struct Ring;
+
+impl<S, P, R> Play<Room<S, P, R>, View<S, P, R>> for Ring {
+    ghost use Rattle.turn_lock.specs.Plays.{rings};
+
+    ghost then = { rings };
+}
