@@ -67,6 +67,12 @@ numbers-few p k (x ∷ xs) =
       | false ↦ omega arith
     ]
 
+-- the end of the edge with a number
+pub end_at : (end : Edge → ℕ) → end no_edge ≡ 0 → (edges : List Edge) (i : ℕ) → get_or (map end edges) i 0 ≡ end (get_or edges i no_edge)
+end_at end none [] i = sym none
+end_at end none (e ∷ edges) zero = refl
+end_at end none (e ∷ edges) (suc i) = end_at end none edges i
+
 -- so an edge is listed at a place where its end is the place
 pub listed : (end : Edge → ℕ) → end no_edge ≡ 0 → (edges : List Edge) (place number : ℕ) → IsAmong number (numbers_of place 0 (map end edges)) ↔ ((number < length edges) × (end (get_or edges number no_edge) ≡ place))
 listed end none edges place number =
@@ -75,16 +81,11 @@ listed end none edges place number =
           let there = numbers-there place 0 number (map end edges) h in
           let is : there.0 ≡ number = (let e = there.1 in omega arith) in
           let inside = there.2 in
-          (omega arith, ap (λ n. end (get_or edges n no_edge)) (sym is) ∙ sym (read edges there.0) ∙ there.3)
+          (omega arith, ap (λ n. end (get_or edges n no_edge)) (sym is) ∙ sym (end_at end none edges there.0) ∙ there.3)
           ),
       λ h. (
           let inside = h.0 in
           let from_zero : 0 + number ≡ number = omega arith in
-          subst (λ n. IsAmong n (numbers_of place 0 (map end edges))) from_zero (numbers-back place 0 number (map end edges) (omega arith) (read edges number ∙ h.1))
+          subst (λ n. IsAmong n (numbers_of place 0 (map end edges))) from_zero (numbers-back place 0 number (map end edges) (omega arith) (end_at end none edges number ∙ h.1))
           ),
     )
-  where
-    read : (edges : List Edge) (i : ℕ) → get_or (map end edges) i 0 ≡ end (get_or edges i no_edge)
-    read [] i = sym none
-    read (e ∷ edges) zero = refl
-    read (e ∷ edges) (suc i) = read edges i

@@ -69,7 +69,7 @@ module _ (side : PlaceEnds → List ℕ) where
 
   module _ (end : Edge → ℕ) where
     -- the lists of a longer list of edges
-    longer : (edges : List Edge) (e : Edge) (p : ℕ) → numbers_of p 0 (map end (edges ++ e ∷ [])) ≡ numbers_of p 0 (map end edges) ++ cond (eqb p (end e)) (length edges ∷ []) []
+    pub longer : (edges : List Edge) (e : Edge) (p : ℕ) → numbers_of p 0 (map end (edges ++ e ∷ [])) ≡ numbers_of p 0 (map end edges) ++ cond (eqb p (end e)) (length edges ∷ []) []
     longer edges e p =
         let long : 0 + length (map end edges) ≡ length edges = (let l = length-map edges end in omega arith) in
         ap (numbers_of p 0) (map_push end edges e) ∙ numbers-push p 0 (map end edges) (end e) ∙ ap (λ n. numbers_of p 0 (map end edges) ++ cond (eqb p (end e)) (n ∷ []) []) long

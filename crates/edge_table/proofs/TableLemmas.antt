@@ -12,16 +12,16 @@ use Rattle.edge_table.specs.Table.{IsTable, same_pair}
 use Rattle.edge_table.specs.declared.table.Edge.{Edge}
 use Rattle.edge_table.proofs.PlaceLemmas.{edge-popped, edge-pushed, numbers-none, place-added, place-removed, side-stays}
 
-abbrev owner_of : Edge → ℕ
+abbrev pub owner_of : Edge → ℕ
 owner_of e = e.owner
 
-abbrev target_of : Edge → ℕ
+abbrev pub target_of : Edge → ℕ
 target_of e = e.target
 
-abbrev from_of : PlaceEnds → List ℕ
+abbrev pub from_of : PlaceEnds → List ℕ
 from_of e = e.from
 
-abbrev to_of : PlaceEnds → List ℕ
+abbrev pub to_of : PlaceEnds → List ℕ
 to_of e = e.to
 
 -- both ends of an edge are places
@@ -67,6 +67,12 @@ table-place_removed pairs edges places fewer last table is no_owner no_target =
         let no_target = targets.0 in
         ((omega arith, omega arith), inside edges all.1 owners.1 targets.1 long)
 
+-- the ends of the edges stay where an edge keeps its own
+pub ends-stay : (old new : Edge) (end : Edge → ℕ) (edges : List Edge) (i : ℕ) → i < length edges → old ≡ get_or edges i old → end new ≡ end old → map end (set edges i new) ≡ map end edges
+ends-stay old new end [] i inside read same = absurd (omega arith)
+ends-stay old new end (e ∷ edges) zero inside read same = ap (λ n. n ∷ map end edges) (same ∙ ap end read)
+ends-stay old new end (e ∷ edges) (suc i) inside read same = ap (λ ns. end e ∷ ns) (ends-stay old new end edges i (omega arith) read same)
+
 -- an edge keeps its ends
 pub table-edge_changed : (pairs : List (Actor × Actor)) (edges : List Edge) (places : List PlaceEnds) (i : ℕ) (old new : Edge) → IsTable pairs edges places → i < length edges → old ≡ get_or edges i old → new.owner ≡ old.owner → new.target ≡ old.target → IsTable pairs (set edges i new) places
 table-edge_changed pairs edges places i old new table inside read same_owner same_target =
@@ -76,15 +82,10 @@ table-edge_changed pairs edges places i old new table inside read same_owner sam
       few_places = table.few_places;
       distinct = table.distinct;
       ends = kept edges i table.ends inside read;
-      from = λ p. table.from p ∙ ap (numbers_of p 0) (sym (ends-stay owner_of edges i inside read same_owner));
-      to = λ p. table.to p ∙ ap (numbers_of p 0) (sym (ends-stay target_of edges i inside read same_target));
+      from = λ p. table.from p ∙ ap (numbers_of p 0) (sym (ends-stay old new owner_of edges i inside read same_owner));
+      to = λ p. table.to p ∙ ap (numbers_of p 0) (sym (ends-stay old new target_of edges i inside read same_target));
     }
   where
-    ends-stay : (end : Edge → ℕ) (edges : List Edge) (i : ℕ) → i < length edges → old ≡ get_or edges i old → end new ≡ end old → map end (set edges i new) ≡ map end edges
-    ends-stay end [] i inside read same = absurd (omega arith)
-    ends-stay end (e ∷ edges) zero inside read same = ap (λ n. n ∷ map end edges) (same ∙ ap end read)
-    ends-stay end (e ∷ edges) (suc i) inside read same = ap (λ ns. end e ∷ ns) (ends-stay end edges i (omega arith) read same)
-
     kept : (edges : List Edge) (i : ℕ) → AllByRecursion (IsInside (length places)) edges → i < length edges → old ≡ get_or edges i old → AllByRecursion (IsInside (length places)) (set edges i new)
     kept [] i all inside read = absurd (omega arith)
     kept (e ∷ edges) zero all inside read =

@@ -1,5 +1,5 @@
 -- What contracts see of a table of edges.
-use Rattle.std.specs.Prelude.{◌≡◌, ◌&&◌, ◌<◌, ◌^◌, ℕ, Bool, List, Option, length, map, position, slice_index_or, slice_set}
+use Rattle.std.specs.Prelude.{◌≡◌, ◌&&◌, ◌<◌, ◌^◌, ℕ, Bool, List, Option, Some, length, map, position, slice_index_or, slice_set}
 use Rattle.std.specs.List.{AllByRecursion, IsDistinct}
 use Rattle.crgc_ids.specs.Actor.{Actor, same_actor}
 use Rattle.edge_table.specs.Ends.{PlaceEnds, no_ends, numbers_of}
@@ -24,6 +24,11 @@ no_edge = record { owner = 0; target = 0; given = 0; released = 0 }
 -- what is kept of the edge with this number
 abbrev pub edge_at : Edges → ℕ → Edge
 edge_at t number = slice_index_or t.edges number no_edge
+
+-- where there is an edge from an owner to a target, its ends are these places
+abbrev pub HasEnds : Edges → Actor → Actor → ℕ → ℕ → Type 0
+HasEnds t owner target owner_place target_place =
+    (n : ℕ) → number_at t owner target ≡ Some n → ((edge_at t n).owner ≡ owner_place) × ((edge_at t n).target ≡ target_place)
 
 -- the numbers of the edges whose owner, and of those whose target, has this place
 abbrev pub edges_from : List Edge → ℕ → List ℕ

@@ -1,15 +1,24 @@
 //! Pairs of an owner and a target, and the number of each.
-ghost use Rattle.std.specs.Prelude.{◌≡◌, ◌-◌, ◌<◌, ◌^◌, ◌++◌, [], ◌∷◌, None, IfSome, OnErr, OnOk, length, position, take};
+ghost use Rattle.std.specs.Prelude.{◌≡◌, ◌&&◌, ◌-◌, ◌<◌, ◌^◌, ◌++◌, [], ◌∷◌, ℕ, None, Some, IfSome, OnErr, OnOk, if◌then◌else◌, length, position, take, true};
+ghost use Rattle.std.specs.Bool.{Decides};
 ghost use Rattle.std.specs.List.{IsDistinct};
+ghost use Rattle.std.specs.Map.{lookup};
+ghost use Rattle.crgc_ids.specs.Actor.{Actor};
+ghost use Rattle.crgc_ids.specs.Members.{IsAmong};
+ghost use Rattle.edge_table.specs.Index.{mapped};
 ghost use Rattle.edge_table.specs.Table.{same_pair};
+ghost use Rattle.edge_table.specs.declared.pair_index.TheConstants.{NEAR};
 
 use crgc_ids::{ActorId, NoMemory};
 use std::alloc::Global;
 use std::collections::BTreeMap;
 use std::marker::Model;
 
-/// Pairs of an owner and a target, no two the same, numbered from 0 in the order in which they were added. Contracts see
-/// the list of the pairs.
+/// How many edges from a place, and how many to one, are looked at before the ordered map is.
+pub const NEAR: usize = 8;
+
+/// Pairs of an owner and a target, no two the same, numbered from 0 in the order in which they were added, and an ordered map
+/// with the numbers of those that are to be found there. Contracts see the list of the pairs, and the entries of the map.
 #[derive(Drop)]
 pub struct PairIndex {
     pairs: Vec<(ActorId, ActorId)>,
@@ -17,13 +26,11 @@ pub struct PairIndex {
 }
 
 impl Model for PairIndex {
-    ghost use Rattle.std.specs.Prelude.{List};
-    ghost use Rattle.crgc_ids.specs.Actor.{Actor};
-    ghost use Rattle.edge_table.specs.Index.{IsIndex};
+    ghost use Rattle.edge_table.specs.Index.{Indexed, IsIndex};
 
-    ghost Value = { List (Actor × Actor) };
+    ghost Value = { Indexed };
 
-    ghost view = { λ p. p.pairs.items };
+    ghost view = { λ p. record { pairs = p.pairs.items; entries = p.numbers.entries } };
 
     ghost invariant = { λ p. IsIndex p.numbers.entries p.pairs.items };
 }
@@ -31,7 +38,7 @@ impl Model for PairIndex {
 impl PairIndex {
     /// No pair.
     pub fn new(alloc: Global) -> PairIndex
-        ensures { result ≡ [] }
+        ensures { result ≡ record { pairs = []; entries = [] } }
     {
         PairIndex {
             pairs: Vec::new(alloc),
@@ -39,10 +46,32 @@ impl PairIndex {
         }
     }
 
-    /// The number of the pair; None exactly where it is not there. Logarithmic time, whatever the pairs are.
-    pub fn number_of(&self, owner: ActorId, target: ActorId) -> Option<u32>
-        ensures number { result ≡ position (same_pair (owner, target)) self.now }
-        ensures within { IfSome result (λ number. number < length self.now) }
+    /// The number of the pair, if it is one of the first numbers of the list. At most 8 looks at pairs.
+    pub fn number_near(&self, owner: ActorId, target: ActorId, numbers: &[u32]) -> Option<u32>
+        requires { (n : ℕ) → IsAmong n numbers.now → n < length self.now.pairs }
+        ensures near { (n : ℕ) → position (same_pair (owner, target)) self.now.pairs ≡ Some n → IsAmong n (take NEAR numbers.now) → result ≡ Some n }
+        ensures number { IfSome result (λ n. position (same_pair (owner, target)) self.now.pairs ≡ Some n) }
+    {
+        for i in 0..numbers.len().min(NEAR) {
+            if self.is_pair(numbers[i], owner, target) {
+                return Some(numbers[i]);
+            }
+        }
+        None
+    }
+
+    /// Whether the pair has this number.
+    fn is_pair(&self, number: u32, owner: ActorId, target: ActorId) -> bool
+        requires { number < length self.now.pairs }
+        ensures { Decides result (position (same_pair (owner, target)) self.now.pairs ≡ Some number) }
+    {
+        self.pairs[number as usize] == (owner, target)
+    }
+
+    /// The number that the map has for the pair. Logarithmic time, whatever the pairs are.
+    pub fn number_mapped(&self, owner: ActorId, target: ActorId) -> Option<u32>
+        ensures value { result ≡ mapped self.now (owner, target) }
+        ensures number { IfSome result (λ n. position (same_pair (owner, target)) self.now.pairs ≡ Some n) }
     {
         match self.numbers.get(&(owner, target)) {
             Some(number) => Some(*number),
@@ -50,19 +79,23 @@ impl PairIndex {
         }
     }
 
-    /// The pair comes last. After `NoMemory` all is as before. Logarithmic time, amortized.
-    pub fn push(&mut self, owner: ActorId, target: ActorId) -> Result<(), NoMemory>
-        requires new { position (same_pair (owner, target)) self.old ≡ None }
-        requires few { length self.old < 2 ^ 32 }
-        ensures ok { OnOk result (self.new ≡ self.old ++ (owner, target) ∷ []) }
+    /// The pair comes last, and the map has its number if it is to be found there. After `NoMemory` all is as before.
+    /// Constant time, or logarithmic time where the pair goes into the map; amortized.
+    pub fn push(&mut self, owner: ActorId, target: ActorId, in_map: bool) -> Result<(), NoMemory>
+        requires new { position (same_pair (owner, target)) self.old.pairs ≡ None }
+        requires few { length self.old.pairs < 2 ^ 32 }
+        ensures ok { OnOk result (self.new.pairs ≡ self.old.pairs ++ (owner, target) ∷ []) }
+        ensures mapped { OnOk result (in_map ≡ true → mapped self.new (owner, target) ≡ Some (length self.old.pairs)) }
+        ensures kept { OnOk result ((p : Actor × Actor) (n : ℕ) → position (same_pair p) self.old.pairs ≡ Some n
+            → mapped self.new p ≡ mapped self.old p) }
         ensures err { OnErr result (self.new ≡ self.old) }
-        ensures distinct { IsDistinct same_pair self.new }
+        ensures distinct { IsDistinct same_pair self.new.pairs }
     {
         let number = self.pairs.len() as u32;
         if self.pairs.reserve(1).is_err() {
             return Err(NoMemory);
         }
-        if self.numbers.insert((owner, target), number).is_err() {
+        if insert_if(&mut self.numbers, owner, target, number, in_map).is_err() {
             return Err(NoMemory);
         }
         self.pairs.push_reserved((owner, target));
@@ -71,11 +104,33 @@ impl PairIndex {
 
     /// The last pair, if there is one, is taken away. Logarithmic time.
     pub fn pop(&mut self)
-        ensures pairs { self.new ≡ take (length self.old - 1) self.old }
-        ensures distinct { IsDistinct same_pair self.new }
+        ensures pairs { self.new.pairs ≡ take (length self.old.pairs - 1) self.old.pairs }
+        ensures kept { (p : Actor × Actor) (n : ℕ) → position (same_pair p) self.new.pairs ≡ Some n → mapped self.new p ≡ mapped self.old p }
+        ensures distinct { IsDistinct same_pair self.new.pairs }
     {
         if let Some(pair) = self.pairs.pop() {
             self.numbers.remove(&pair);
         }
+    }
+}
+
+/// The map has the number for the pair, if it is to be found there. After `NoMemory` all is as before.
+fn insert_if(
+    numbers: &mut BTreeMap<(ActorId, ActorId), u32>,
+    owner: ActorId,
+    target: ActorId,
+    number: u32,
+    in_map: bool,
+) -> Result<(), NoMemory>
+    ensures ok { OnOk result ((p : Actor × Actor) → lookup (same_pair p) numbers.new.entries
+        ≡ (if in_map && same_pair (owner, target) p then Some number else lookup (same_pair p) numbers.old.entries)) }
+    ensures err { OnErr result (numbers.new.entries ≡ numbers.old.entries) }
+{
+    if !in_map {
+        return Ok(());
+    }
+    match numbers.insert((owner, target), number) {
+        Ok(_) => Ok(()),
+        Err(_) => Err(NoMemory),
     }
 }

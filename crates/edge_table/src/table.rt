@@ -1,11 +1,13 @@
 //! Edges by number and by place.
 ghost use Rattle.std.specs.Prelude.{◌≡◌, ◌+◌, ◌-◌, ◌<◌, ◌≤◌, ◌^◌, ◌++◌, [], ◌∷◌, None, IfOk, IfSome, OnErr, OnOk, length, take, vec_capacity, vec_len};
+ghost use Rattle.std.specs.Bool.{Decides};
 ghost use Rattle.std.specs.List.{IsDistinct};
 ghost use Rattle.edge_table.specs.Ends.{HasRoom, HaveSameLists};
-ghost use Rattle.edge_table.specs.Table.{edge_at, edges_from, edges_to, number_at, same_pair, with_edge};
+ghost use Rattle.edge_table.specs.declared.pair_index.TheConstants.{NEAR};
+ghost use Rattle.edge_table.specs.Table.{HasEnds, edge_at, edges_from, edges_to, number_at, same_pair, with_edge};
 
 use crate::ends::Ends;
-use crate::pair_index::PairIndex;
+use crate::pair_index::{NEAR, PairIndex};
 use crgc_ids::{ActorId, NoMemory};
 use std::alloc::Global;
 use std::marker::Model;
@@ -31,13 +33,14 @@ pub struct EdgeTable {
 
 impl Model for EdgeTable {
     ghost use Rattle.std.specs.Prelude.{length};
+    ghost use Rattle.edge_table.specs.Index.{AreFound};
     ghost use Rattle.edge_table.specs.Table.{Edges, IsTable};
 
     ghost Value = { Edges };
 
-    ghost view = { λ t. record { pairs = t.pairs; edges = t.edges.items; places = length t.places.items } };
+    ghost view = { λ t. record { pairs = t.pairs.pairs; edges = t.edges.items; places = length t.places.items } };
 
-    ghost invariant = { λ t. IsTable t.pairs t.edges.items t.places.items };
+    ghost invariant = { λ t. IsTable t.pairs.pairs t.edges.items t.places.items × AreFound t.pairs t.edges.items };
 }
 
 impl EdgeTable {
@@ -94,18 +97,43 @@ impl EdgeTable {
         self.places.pop();
     }
 
-    /// The number of the edge from the owner to the target; None exactly where there is none. Logarithmic time.
-    pub fn number_of(&self, owner: ActorId, target: ActorId) -> Option<u32>
+    /// The number of the edge from the owner to the target, which have these places; None exactly where there is none. At most
+    /// 2 * 8 looks at edges, and where that does not tell, logarithmic time.
+    pub fn number_of(
+        &self,
+        owner: ActorId,
+        target: ActorId,
+        owner_place: u32,
+        target_place: u32,
+    ) -> Option<u32>
+        requires owner { owner_place < self.now.places }
+        requires target { target_place < self.now.places }
+        requires ends { HasEnds self.now owner target owner_place target_place }
         ensures number { result ≡ number_at self.now owner target }
         ensures within { IfSome result (λ number. number < length self.now.edges) }
         ensures distinct { IsDistinct same_pair self.now.pairs }
         ensures long { length self.now.edges ≡ length self.now.pairs }
     {
-        self.pairs.number_of(owner, target)
+        let from = self.places[owner_place as usize].from();
+        if let Some(number) = self.pairs.number_near(owner, target, from) {
+            return Some(number);
+        }
+        if from.len() <= NEAR {
+            return None;
+        }
+        let to = self.places[target_place as usize].to();
+        if let Some(number) = self.pairs.number_near(owner, target, to) {
+            return Some(number);
+        }
+        if to.len() <= NEAR {
+            return None;
+        }
+        self.pairs.number_mapped(owner, target)
     }
 
     /// There is one edge more, the last, with nothing given and released; its number is the answer. After `NoMemory`, which
-    /// comes too where there are 2^32 - 1 edges, all is as before. Logarithmic time, amortized.
+    /// comes too where there are 2^32 - 1 edges, all is as before. Constant time, or logarithmic time where the edge is among the
+    /// first 8 in neither list; amortized.
     pub fn add(
         &mut self,
         owner: ActorId,
@@ -131,7 +159,8 @@ impl EdgeTable {
         if reserve(&mut self.edges, &mut self.places, from, to).is_err() {
             return Err(NoMemory);
         }
-        if self.pairs.push(owner, target).is_err() {
+        let in_map = are_full(&self.places[from], &self.places[to]);
+        if self.pairs.push(owner, target, in_map).is_err() {
             return Err(NoMemory);
         }
         self.edges.push_reserved(Edge {
@@ -214,6 +243,13 @@ impl EdgeTable {
     {
         self.places[place as usize].to()
     }
+}
+
+/// Whether an edge from the one place to the other, if it comes last, is one of the first in neither list.
+fn are_full(from: &Ends, to: &Ends) -> bool
+    ensures { Decides result ((NEAR ≤ length from.now.from) × (NEAR ≤ length to.now.to)) }
+{
+    from.from().len() >= NEAR && to.to().len() >= NEAR
 }
 
 /// Room for one more edge, also from the one place and to the other.

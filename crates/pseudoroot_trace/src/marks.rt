@@ -44,8 +44,8 @@ impl Marks {
         }
     }
 
-    /// There is room for the marks of all actors that the graph names, in two rounds; the marks stay. After `NoMemory` all is as before. Linear
-    /// time in the number of actors.
+    /// There is room for the marks of all actors that the graph names, in two rounds; the marks stay. After `NoMemory` all is as
+    /// before. Linear time in the number of actors.
     pub fn reserve(&mut self, graph: &ShadowGraph) -> Result<(), NoMemory>
         ensures room { OnOk result (length graph.now.shadows.names ≤ self.new.room) }
         ensures grown { self.old.room ≤ self.new.room }

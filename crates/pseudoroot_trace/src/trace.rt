@@ -79,8 +79,8 @@ impl<'a> PlaceGraph for Trace<'a> {
 
     fn has_step(&self, owner: u32, target: u32) -> bool {
         let _places = self.graph.place_count();
-        let (from, to) = (actor_at(self.graph, owner), actor_at(self.graph, target));
-        leads(self.graph, to, self.graph.edge(from, to))
+        let to = actor_at(self.graph, target);
+        leads(self.graph, to, self.graph.edge_between(owner, target))
     }
 }
 

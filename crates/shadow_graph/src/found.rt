@@ -3,9 +3,11 @@ ghost use Rattle.std.specs.Prelude.{◌≡◌};
 ghost use Rattle.edge_table.specs.Table.{no_edge};
 ghost use Rattle.shadow_table.specs.Shadows.{blank, shadow_at};
 ghost use Rattle.shadow_rows.specs.Pairs.{edge_between};
+ghost use Rattle.shadow_rows.specs.Tabled.{AreTabled};
 
 use crgc_ids::ActorId;
 use edge_table::{Edge, EdgeTable};
+use shadow_rows::number_of;
 use shadow_table::{Shadow, ShadowTable};
 
 /// The shadow of the actor, or a blank one where it was not named.
@@ -19,11 +21,18 @@ pub fn shadow_of(shadows: &ShadowTable, actor: ActorId) -> Shadow
     shadows.shadow(place)
 }
 
-/// What is kept of the owner's references to the target, or of no edge where no row named the pair.
-pub fn edge_between(edges: &EdgeTable, owner: ActorId, target: ActorId) -> Edge
+/// What is kept of the owner's references to the target, or of no edge where no row named the pair. At most 2 * 8 looks at edges,
+/// and where that does not tell, logarithmic time; on average.
+pub fn edge_between(
+    shadows: &ShadowTable,
+    edges: &EdgeTable,
+    owner: ActorId,
+    target: ActorId,
+) -> Edge
+    requires { AreTabled shadows.now.names edges.now }
     ensures { result ≡ edge_between edges.now owner target }
 {
-    let Some(number) = edges.number_of(owner, target) else {
+    let Some(number) = number_of(shadows, edges, owner, target) else {
         return no_edge();
     };
     edges.edge(number)

@@ -191,7 +191,7 @@ impl ShadowGraph {
     }
 
     /// The references to the target that the owner was given, less those that it released; 0 where the target was dropped.
-    /// Time logarithmic in the number of edges.
+    /// At most 2 * 8 looks at edges, and where that does not tell, time logarithmic in their number; on average.
     pub fn edge(&self, owner: ActorId, target: ActorId) -> i64
         ensures { let e = seen_edge self.now owner target in result ≡ pos e.given -ℤ pos e.released }
     {
@@ -229,7 +229,7 @@ impl ShadowGraph {
         if shadow_of(&self.shadows, target).dropped {
             return no_edge();
         }
-        edge_between(&self.edges, owner, target)
+        edge_between(&self.shadows, &self.edges, owner, target)
     }
 
     /// The Delta is taken in. After `NoMemory` all is as before. On average and amortized, time in proportion to n log n for n

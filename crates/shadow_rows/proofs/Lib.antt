@@ -1,4 +1,5 @@
 pub mod PairLemmas
+pub mod EndsLemmas
 pub mod GrowLemmas
 pub mod NamedLemmas
 pub mod StandsLemmas

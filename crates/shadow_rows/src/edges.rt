@@ -1,41 +1,77 @@
 //! Edges by the pair of their owner and their target.
-ghost use Rattle.std.specs.Prelude.{◌≡◌, ◌+◌, ◌<◌, ◌^◌, true, length};
-ghost use Rattle.std.specs.List.{position_or_len};
+ghost use Rattle.std.specs.Prelude.{◌≡◌, ◌+◌, ◌<◌, ◌^◌, true, IfSome, length};
+ghost use Rattle.std.specs.List.{IsDistinct, position_or_len};
 ghost use Rattle.crgc_ids.specs.Actor.{Actor};
 ghost use Rattle.history_model.specs.Ledgers.{pair_total};
-ghost use Rattle.edge_table.specs.Table.{same_pair};
+ghost use Rattle.edge_table.specs.Table.{number_at, same_pair};
 ghost use Rattle.shadow_rows.specs.Pairs.{ChangesEdge, ChangesEdges, edge_between, has_pair, with_given, with_released, without_given};
-ghost use Rattle.shadow_rows.specs.Tabled.{AreNumbered};
+ghost use Rattle.shadow_rows.specs.Tabled.{AreNumbered, AreTabled};
 
 use crgc_ids::{ActorId, PairCount};
 use edge_table::EdgeTable;
+use shadow_table::ShadowTable;
+
+/// The number of the edge from the owner to the target; None exactly where there is none. At most 2 * 8 looks at edges, and where
+/// that does not tell, logarithmic time; on average.
+pub fn number_of(
+    shadows: &ShadowTable,
+    edges: &EdgeTable,
+    owner: ActorId,
+    target: ActorId,
+) -> Option<u32>
+    requires { AreTabled shadows.now.names edges.now }
+    ensures number { result ≡ number_at edges.now owner target }
+    ensures within { IfSome result (λ number. number < length edges.now.edges) }
+    ensures distinct { IsDistinct same_pair edges.now.pairs }
+    ensures long { length edges.now.edges ≡ length edges.now.pairs }
+{
+    let _edges = edges.edge_count();
+    let from = shadows.place_of(owner)?;
+    let to = shadows.place_of(target)?;
+    edges.number_of(owner, target, from, to)
+}
 
 /// The number of an edge that is there.
-fn number(edges: &EdgeTable, owner: ActorId, target: ActorId) -> u32
-    requires { has_pair edges.now.pairs owner target ≡ true }
+fn number(shadows: &ShadowTable, edges: &EdgeTable, owner: ActorId, target: ActorId) -> u32
+    requires tabled { AreTabled shadows.now.names edges.now }
+    requires there { has_pair edges.now.pairs owner target ≡ true }
     ensures number { result ≡ position_or_len (same_pair (owner, target)) edges.now.pairs }
     ensures within { result < length edges.now.edges }
     ensures long { length edges.now.edges ≡ length edges.now.pairs }
 {
-    edges.number_of(owner, target).unwrap()
+    number_of(shadows, edges, owner, target).unwrap()
 }
 
 /// So many more references to the target are given to the owner.
-pub fn give(edges: &mut EdgeTable, owner: ActorId, target: ActorId, count: u64)
+pub fn give(
+    shadows: &ShadowTable,
+    edges: &mut EdgeTable,
+    owner: ActorId,
+    target: ActorId,
+    count: u64,
+)
+    requires tabled { AreTabled shadows.now.names edges.old }
     requires there { has_pair edges.old.pairs owner target ≡ true }
     requires fits { (edge_between edges.old owner target).given + count < 2 ^ 64 }
     ensures { ChangesEdge edges.old edges.new owner target (with_given count) }
 {
-    let number = number(edges, owner, target);
+    let number = number(shadows, edges, owner, target);
     edges.give(number, count);
 }
 
 /// So many of the references to the target that the owner was given are taken back, or all where there are fewer.
-pub fn take_back(edges: &mut EdgeTable, owner: ActorId, target: ActorId, count: u64)
-    requires { has_pair edges.old.pairs owner target ≡ true }
+pub fn take_back(
+    shadows: &ShadowTable,
+    edges: &mut EdgeTable,
+    owner: ActorId,
+    target: ActorId,
+    count: u64,
+)
+    requires tabled { AreTabled shadows.now.names edges.old }
+    requires there { has_pair edges.old.pairs owner target ≡ true }
     ensures { ChangesEdge edges.old edges.new owner target (without_given count) }
 {
-    let number = number(edges, owner, target);
+    let number = number(shadows, edges, owner, target);
     let given = edges.edge(number).given;
     edges.take_back(number, count.min(given));
 }

@@ -1,9 +1,9 @@
 //! Edges that are added, with nothing given and released.
-ghost use Rattle.std.specs.Prelude.{◌≡◌, ◌<◌, ◌≤◌, ◌||◌, true, IfOk, OnErr, OnOk, length, take};
+ghost use Rattle.std.specs.Prelude.{◌≡◌, ◌<◌, ◌≤◌, ◌||◌, true, IfOk, IfSome, OnErr, OnOk, length, take};
 ghost use Rattle.edge_table.specs.Table.{Edges, same_pair};
 ghost use Rattle.crgc_ids.specs.Actor.{Actor, same_actor};
 ghost use Rattle.std.specs.List.{list_any, position_or_len};
-ghost use Rattle.shadow_table.specs.Shadows.{ExtendsShadows, first_of, is_named};
+ghost use Rattle.shadow_table.specs.Shadows.{ExtendsShadows, first_of, is_named, place_in};
 ghost use Rattle.shadow_rows.specs.Pairs.{has_pair};
 ghost use Rattle.shadow_rows.specs.Tabled.{AreCounts, AreNumbered, ArePairsNamed, AreTabled, ExtendsEdges, row_names};
 
@@ -21,15 +21,18 @@ pub struct RowNumbers {
     pub released: Vec<u32>,
 }
 
-/// The edge between the actors is there, and this is its number. After `NoMemory` all is as before. Logarithmic time, amortized.
+/// The edge between the actors is there, and this is its number. After `NoMemory` all is as before. At most 2 * 8 looks at edges,
+/// and where that does not tell, logarithmic time; amortized and on average.
 fn add_pair(
     edges: &mut EdgeTable,
     shadows: &ShadowTable,
     owner: ActorId,
     target: ActorId,
+    from: u32,
 ) -> Result<u32, NoMemory>
     requires tabled { AreTabled shadows.now.names edges.old }
     requires owner { is_named shadows.now.names owner ≡ true }
+    requires from { from ≡ place_in shadows.now.names owner }
     requires target { is_named shadows.now.names target ≡ true }
     ensures there { OnOk result (has_pair edges.new.pairs owner target ≡ true) }
     ensures number { IfOk result (λ number. number ≡ position_or_len (same_pair (owner, target)) edges.new.pairs) }
@@ -38,16 +41,30 @@ fn add_pair(
     ensures extends { ExtendsEdges edges.old edges.new }
     ensures places { edges.new.places ≡ edges.old.places }
 {
-    if let Some(number) = edges.number_of(owner, target) {
+    let to = shadows.place_of(target).unwrap();
+    if let Some(number) = edges.number_of(owner, target, from, to) {
         return Ok(number);
     }
-    let from = shadows.place_of(owner).unwrap();
-    let to = shadows.place_of(target).unwrap();
     edges.add(owner, target, from, to)
 }
 
+/// The place of the actor, which is named. The last actor that was asked for is told with its place.
+fn place_after(shadows: &ShadowTable, last: Option<(ActorId, u32)>, actor: ActorId) -> u32
+    requires named { is_named shadows.now.names actor ≡ true }
+    requires last { IfSome last (λ l. l.1 ≡ place_in shadows.now.names l.0) }
+    ensures { result ≡ place_in shadows.now.names actor }
+{
+    if let Some((asked, place)) = last {
+        if asked == actor {
+            return place;
+        }
+    }
+    shadows.place_of(actor).unwrap()
+}
+
 /// The edges between the actors of the rows are there, and these are their numbers. After `NoMemory` some of them may be. For
-/// each row time logarithmic in the number of edges.
+/// each row at most 2 * 8 looks at edges, and where that does not tell, time logarithmic in their number; amortized and on
+/// average.
 pub fn add_pairs(
     alloc: Global,
     edges: &mut EdgeTable,
@@ -65,8 +82,11 @@ pub fn add_pairs(
     if numbers.reserve(rows.len()).is_err() {
         return Err(NoMemory);
     }
+    let mut last = None;
     for row in rows {
-        let number = add_pair(edges, shadows, row.owner, row.target)?;
+        let from = place_after(shadows, last, row.owner);
+        last = Some((row.owner, from));
+        let number = add_pair(edges, shadows, row.owner, row.target, from)?;
         numbers.push_reserved(number);
     }
     Ok(numbers)

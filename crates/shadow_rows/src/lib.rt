@@ -11,5 +11,6 @@ mod settle;
 mod windows;
 
 pub use add::add_delta;
+pub use edges::number_of;
 pub use settle::settle_lost;
 pub use windows::add_window;

@@ -8,6 +8,7 @@ ghost use Rattle.shadow_rows.specs.Losing.{Corrects, LosesNodes, gain_before};
 ghost use Rattle.crgc_ids.specs.Members.{IsAmong};
 ghost use Rattle.shadow_rows.specs.Pairs.{ChangesEdges, KeepsEnds, edge_between, with_given, without_given};
 ghost use Rattle.shadow_rows.specs.Settled.{IsCovered};
+ghost use Rattle.shadow_rows.specs.Tabled.{AreTabled};
 ghost use Rattle.undo_log.specs.Keys.{same_owner};
 ghost use Rattle.undo_log.specs.Told.{admitted_from};
 ghost use Rattle.undo_log.specs.Totals.{admitted_total, told_total};
@@ -20,7 +21,8 @@ use undo_log::{Correction, UndoLog};
 
 /// What the row says was told is taken back.
 fn take_back_row(shadows: &mut ShadowTable, edges: &mut EdgeTable, row: &Correction)
-    requires { IsCovered shadows.old.names edges.old.pairs row.now.owner row.now.target }
+    requires tabled { AreTabled shadows.old.names edges.old }
+    requires covered { IsCovered shadows.old.names edges.old.pairs row.now.owner row.now.target }
     ensures shadows { ChangesShadows shadows.old shadows.new (λ a s.
         without_told (if same_owner None row.now.owner && same_actor a row.now.target then row.now.told else 0) s) }
     ensures edges { ChangesEdges edges.old edges.new (λ b a e.
@@ -30,11 +32,12 @@ fn take_back_row(shadows: &mut ShadowTable, edges: &mut EdgeTable, row: &Correct
         shadows.take_back(row.target, row.told);
         return;
     };
-    edges::take_back(edges, owner, row.target, row.told);
+    edges::take_back(shadows, edges, owner, row.target, row.told);
 }
 
 /// What the row says was admitted is put in.
 fn put_in_row(shadows: &mut ShadowTable, edges: &mut EdgeTable, row: &Correction)
+    requires tabled { AreTabled shadows.old.names edges.old }
     requires covered { IsCovered shadows.old.names edges.old.pairs row.now.owner row.now.target }
     requires admitted_fits { (a : Actor) → (shadow_at shadows.old a).admitted
         + (if same_owner None row.now.owner && same_actor a row.now.target then row.now.admitted else 0) < 2 ^ 64 }
@@ -49,12 +52,13 @@ fn put_in_row(shadows: &mut ShadowTable, edges: &mut EdgeTable, row: &Correction
         shadows.admit(row.target, row.admitted);
         return;
     };
-    edges::give(edges, owner, row.target, row.admitted);
+    edges::give(shadows, edges, owner, row.target, row.admitted);
 }
 
 /// What the rows say was told is taken back. For each row time logarithmic in the number of edges, on average.
 fn take_back_all(shadows: &mut ShadowTable, edges: &mut EdgeTable, rows: &[Correction])
-    requires { AllByRecursion (λ r. IsCovered shadows.old.names edges.old.pairs r.owner r.target) rows.now }
+    requires tabled { AreTabled shadows.old.names edges.old }
+    requires covered { AllByRecursion (λ r. IsCovered shadows.old.names edges.old.pairs r.owner r.target) rows.now }
     ensures shadows { ChangesShadows shadows.old shadows.new (λ a s. without_told (told_total None a rows.now) s) }
     ensures edges { ChangesEdges edges.old edges.new (λ b a e. without_given (told_total (Some b) a rows.now) e) }
 {
@@ -65,6 +69,7 @@ fn take_back_all(shadows: &mut ShadowTable, edges: &mut EdgeTable, rows: &[Corre
 
 /// What the rows say was admitted is put in. For each row time logarithmic in the number of edges, on average.
 fn put_in_all(shadows: &mut ShadowTable, edges: &mut EdgeTable, rows: &[Correction])
+    requires tabled { AreTabled shadows.old.names edges.old }
     requires covered { AllByRecursion (λ r. IsCovered shadows.old.names edges.old.pairs r.owner r.target) rows.now }
     requires admitted_fits { (a : Actor) → (shadow_at shadows.old a).admitted + admitted_total None a rows.now < 2 ^ 64 }
     requires given_fits { (b a : Actor) → (edge_between edges.old b a).given + admitted_total (Some b) a rows.now < 2 ^ 64 }
@@ -79,6 +84,7 @@ fn put_in_all(shadows: &mut ShadowTable, edges: &mut EdgeTable, rows: &[Correcti
 /// The node is lost: what it told is taken back, and what others admitted from it is put in. For each row noted of the node time
 /// logarithmic in the number of edges, on average.
 fn settle_node(shadows: &mut ShadowTable, edges: &mut EdgeTable, log: &UndoLog, node: NodeId)
+    requires tabled { AreTabled shadows.old.names edges.old }
     requires covered { IsLogCovered shadows.old edges.old log.now }
     requires admitted_fits { (a : Actor) → (shadow_at shadows.old a).admitted + admitted_from log.now node None a < 2 ^ 64 }
     requires given_fits { (b a : Actor) → (edge_between edges.old b a).given + admitted_from log.now node (Some b) a < 2 ^ 64 }
@@ -100,6 +106,7 @@ pub fn settle_lost(
     before: NodeSet,
     after: NodeSet,
 )
+    requires tabled { AreTabled shadows.old.names edges.old }
     requires covered { IsLogCovered shadows.old edges.old log.now }
     requires admitted_small { (a : Actor) → (shadow_at shadows.old a).admitted ≤ 4611686018427387904 }
     requires given_small { (b a : Actor) → (edge_between edges.old b a).given ≤ 4611686018427387904 }
@@ -131,6 +138,7 @@ fn settle_if_new(
     before: NodeSet,
     after: NodeSet,
 )
+    requires tabled { AreTabled shadows.old.names edges.old }
     requires covered { IsLogCovered shadows.old edges.old log.now }
     requires admitted_fits { (a : Actor) → (shadow_at shadows.old a).admitted + admitted_from log.now node None a < 2 ^ 64 }
     requires given_fits { (b a : Actor) → (edge_between edges.old b a).given + admitted_from log.now node (Some b) a < 2 ^ 64 }

@@ -7,6 +7,7 @@ ghost use Rattle.shadow_graph.specs.Seen.{is_dropped, seen_edge};
 ghost use Rattle.shadow_rows.specs.Tabled.{pair_at};
 
 use super::ShadowGraph;
+use crate::found::no_edge;
 use edge_table::Edge;
 
 impl ShadowGraph {
@@ -30,7 +31,7 @@ impl ShadowGraph {
     {
         let number = self.edges.edges_from(place)[index as usize];
         let edge = self.numbered(number);
-        (edge.target, self.value(edge))
+        (edge.target, self.value(edge.target, edge))
     }
 
     /// How many owners rows named with the actor at the place as target. Constant time.
@@ -53,7 +54,7 @@ impl ShadowGraph {
     {
         let number = self.edges.edges_to(place)[index as usize];
         let edge = self.numbered(number);
-        (edge.owner, self.value(edge))
+        (edge.owner, self.value(edge.target, edge))
     }
 
     /// What is kept of the edge with this number, which is what is kept of the actors at its ends.
@@ -72,16 +73,43 @@ impl ShadowGraph {
         self.edges.edge(number)
     }
 
-    /// The references that were given along the edge, less those that were released; 0 where its target was dropped.
-    fn value(&self, edge: Edge) -> i64
-        requires target { edge.target < length self.now.shadows.names }
+    /// The value of `edge` for the actors at both places. At most 2 * 8 looks at edges, and where that does not tell, time
+    /// logarithmic in their number.
+    pub fn edge_between(&self, owner: u32, target: u32) -> i64
+        requires owner { owner < length self.now.shadows.names }
+        requires target { target < length self.now.shadows.names }
+        ensures { let e = seen_edge self.now (actor_of self.now owner) (actor_of self.now target) in
+            result ≡ pos e.given -ℤ pos e.released }
+    {
+        self.value(target, self.kept_between(owner, target))
+    }
+
+    /// What is kept of the actors at both places, or of no edge where no row named the pair.
+    fn kept_between(&self, owner: u32, target: u32) -> Edge
+        requires owner { owner < length self.now.shadows.names }
+        requires target { target < length self.now.shadows.names }
+        ensures between { result ≡ edge_between self.now.edges (actor_of self.now owner) (actor_of self.now target) }
+        ensures given { result.given ≤ 4611686018427387904 }
+        ensures released { result.released ≤ 4611686018427387904 }
+    {
+        let _names = self.shadows.place_count();
+        let (from, to) = (self.actor(owner), self.actor(target));
+        let Some(number) = self.edges.number_of(from, to, owner, target) else {
+            return no_edge();
+        };
+        self.edges.edge(number)
+    }
+
+    /// The references that were given along the edge, less those that were released; 0 where the actor at the place was dropped.
+    fn value(&self, target: u32, edge: Edge) -> i64
+        requires target { target < length self.now.shadows.names }
         requires given { edge.given ≤ 4611686018427387904 }
         requires released { edge.released ≤ 4611686018427387904 }
-        ensures { let e = if is_dropped self.now (actor_of self.now edge.target) then no_edge else edge in
+        ensures { let e = if is_dropped self.now (actor_of self.now target) then no_edge else edge in
             result ≡ pos e.given -ℤ pos e.released }
     {
         let _names = self.shadows.place_count();
-        if self.shadows.shadow(edge.target).dropped {
+        if self.shadows.shadow(target).dropped {
             return 0;
         }
         edge.given as i64 - edge.released as i64

@@ -20,6 +20,7 @@ loop-row-init c =
       extends = edges-extend-self c.args.edges.now;
       places = refl;
       numbered = numbered-none c.args.edges.now c.reserve.new.self.items (c.reserve.ensures.items ∙ c.new-numbers.ensures.items);
+      last = tt;
       room = omega arith;
     }
 
@@ -39,5 +40,6 @@ loop-row-preserved c =
       extends = edges-extend-more c.args.edges.now c.loop-row.edges new c.loop-row.invariant.extends c.add_pair.ensures.extends;
       places = c.add_pair.ensures.places ∙ c.loop-row.invariant.places;
       numbered = subst (λ rs. AreNumbered new rs c.push_reserved.new.self.items) (sym is) (subst (AreNumbered new (rows ++ row ∷ [])) (sym more) pushed);
+      last = c.place_after-from.ensures;
       room = omega arith;
     }

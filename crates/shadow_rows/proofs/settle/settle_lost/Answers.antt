@@ -1,6 +1,7 @@
 use Rattle.std.proofs.Common.{◌≡◌, ◌∙◌, ℕ, arith, refl, subst}
 use Rattle.shadow_rows.specs.Losing.{lost_so_far}
 use Rattle.shadow_rows.specs.Folded.{CountsFold}
+use Rattle.shadow_rows.proofs.AddedLemmas.{tabled-counted}
 use Rattle.shadow_rows.proofs.LosingLemmas.{IsTurn, corrects-none, first-counts, keeps-more, keeps-self, last-counts, turn-corrects, turn-counts}
 use Rattle.shadow_rows.proofs.settle.settle_lost.Goals as goal
 
@@ -41,3 +42,7 @@ returns-clause-counts c = λ cl fold few part below logs counts.
     let all : c.loop-number.number ≡ 16 = omega arith in
     last-counts cl fold c.args.before c.args.after s e few part below
     (subst (λ (n : ℕ). CountsFold cl (lost_so_far c.args.before c.args.after n) fold s e) all (c.loop-number.invariant.counts cl fold below logs counts))
+
+pub settle_if_new-requires-clause-tabled : goal.settle_if_new-requires-clause-tabled
+settle_if_new-requires-clause-tabled c =
+    tabled-counted c.args.shadows.now.names c.loop-number.shadows.names c.args.edges.now c.loop-number.edges c.loop-number.invariant.names c.loop-number.invariant.ends c.requires.tabled

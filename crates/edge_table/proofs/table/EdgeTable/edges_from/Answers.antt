@@ -12,9 +12,9 @@ returns-clause-few c =
     let places = c.self.inside.places.items in
     let inside : c.args.place < length places = subst (λ (t : Edges). c.args.place < t.places) (sym c.self.view_is) c.requires in
     let read = c.index.ensures ∙ get_or_default places c.args.place c.index.result.now no_ends inside in
-    let is : c.from.result.now ≡ edges_from edges c.args.place = c.from.ensures ∙ ap (λ (e : PlaceEnds). e.from) read ∙ c.self.invariant.from c.args.place in
+    let is : c.from.result.now ≡ edges_from edges c.args.place = c.from.ensures ∙ ap (λ (e : PlaceEnds). e.from) read ∙ c.self.invariant.0.from c.args.place in
     let long = ap length is in
     let few = numbers-few c.args.place 0 (map (λ (e : Edge). e.owner) edges) in
     let all = length-map edges (λ (e : Edge). e.owner) in
-    let bound = c.self.invariant.few_edges in
+    let bound = c.self.invariant.0.few_edges in
     omega arith

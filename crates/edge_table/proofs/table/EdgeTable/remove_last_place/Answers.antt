@@ -8,5 +8,7 @@ invariant_of-self c =
     let long = c.self.inside.places.ok in
     let some = subst (λ (t : Edges). 0 < t.places) (sym c.self.view_is) c.requires.some in
     let from = subst (λ (t : Edges). edges_from t.edges (t.places - 1) ≡ []) (sym c.self.view_is) c.requires.from in
-    let to = subst (λ (t : Edges). edges_to t.edges (t.places - 1) ≡ []) (sym c.self.view_is) c.requires.to in
-    table-place_popped c.self.inside.pairs c.self.inside.edges.items c.self.inside.places.items c.pop.new.self.items c.pop.result c.self.invariant (c.pop.ensures.variant.1 (omega arith)) c.pop.ensures.items from to
+    let to = subst (λ (t : Edges). edges_to t.edges (t.places - 1) ≡ []) (sym c.self.view_is) c.requires.to in (
+      table-place_popped c.self.inside.pairs.pairs c.self.inside.edges.items c.self.inside.places.items c.pop.new.self.items c.pop.result c.self.invariant.0 (c.pop.ensures.variant.1 (omega arith)) c.pop.ensures.items from to,
+      c.self.invariant.1,
+    )

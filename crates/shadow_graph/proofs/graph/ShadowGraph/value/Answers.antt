@@ -17,15 +17,15 @@ value-there v e is given released = rw is (omega (arith, ints))
 pub returns-then-shadow : goal.returns-then-shadow
 returns-then-shadow c =
     let g = c.self.inside in
-    let inside = subst (λ (x : Graph). c.args.edge.target < length x.shadows.names) (sym c.self.view_is) c.requires.target in
-    let there = shadow-there g.shadows c.args.edge.target c.place_count-names.ensures.distinct inside in
-    let dropped : (shadow_at g.shadows (name_at g.shadows.names c.args.edge.target)).dropped ≡ true = ap (λ (s : Shadow). s.dropped) (there ∙ sym c.shadow.ensures) ∙ c.if-shadow.true in
+    let inside = subst (λ (x : Graph). c.args.target < length x.shadows.names) (sym c.self.view_is) c.requires.target in
+    let there = shadow-there g.shadows c.args.target c.place_count-names.ensures.distinct inside in
+    let dropped : (shadow_at g.shadows (name_at g.shadows.names c.args.target)).dropped ≡ true = ap (λ (s : Shadow). s.dropped) (there ∙ sym c.shadow.ensures) ∙ c.if-shadow.true in
     rw (← c.self.view_is) (dropped-none _ c.args.edge dropped)
 
 pub returns : goal.returns
 returns c =
     let g = c.self.inside in
-    let inside = subst (λ (x : Graph). c.args.edge.target < length x.shadows.names) (sym c.self.view_is) c.requires.target in
-    let there = shadow-there g.shadows c.args.edge.target c.place_count-names.ensures.distinct inside in
-    let dropped : (shadow_at g.shadows (name_at g.shadows.names c.args.edge.target)).dropped ≡ false = ap (λ (s : Shadow). s.dropped) (there ∙ sym c.shadow.ensures) ∙ c.if-shadow.false in
+    let inside = subst (λ (x : Graph). c.args.target < length x.shadows.names) (sym c.self.view_is) c.requires.target in
+    let there = shadow-there g.shadows c.args.target c.place_count-names.ensures.distinct inside in
+    let dropped : (shadow_at g.shadows (name_at g.shadows.names c.args.target)).dropped ≡ false = ap (λ (s : Shadow). s.dropped) (there ∙ sym c.shadow.ensures) ∙ c.if-shadow.false in
     rw (← c.self.view_is) (value-there _ c.args.edge dropped c.requires.given c.requires.released)
