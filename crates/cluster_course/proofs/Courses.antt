@@ -3,6 +3,8 @@ use Rattle.std.proofs.Common.{◌≡◌, ◌+◌, ℕ, true, false, List, [], �
 use Rattle.std.specs.Prelude.{IfSome}
 use Rattle.std.proofs.lemmas.List.{reverse-append}
 use Rattle.collector.specs.Collected.{Collected}
+use Rattle.evidence_report.specs.Stops.{stops_in}
+use Rattle.evidence_report.proofs.Counting.{total-stopped}
 use Rattle.history_model.specs.declared.events.Event.{Event}
 use Rattle.history_model.specs.declared.events.Event.TheVariants.{Hand, Sweep}
 use Rattle.history_model.specs.declared.records.Verdict.{Verdict}
@@ -33,6 +35,15 @@ course-begun s cs vs nodes past count new none = record {
   collectors = subst (λ h. AreCollectorsAt s.cluster h cs) (sym past) (new s.cluster count);
   verdicts = subst (λ h. AreVerdicts s.cluster h (reverse vs)) (sym past) (subst (λ (xs : List Verdict). AreVerdicts s.cluster [] (reverse xs)) (sym none) tt);
   stopped = sym (ap (λ h. stopped_total s.cluster h) past);
+}
+
+-- of a history that others made
+pub course-made : (s : Story) (cs : List Collected) (vs : List Verdict) (n : ℕ) → IsWithinLimits s.cluster s.past → AreCollectorsAt s.cluster s.past cs → AreVerdicts s.cluster s.past (reverse vs) → n ≡ stops_in vs → IsCourse s (Some cs) vs n
+course-made s cs vs n within stand are count = record {
+  within = within;
+  collectors = stand;
+  verdicts = are;
+  stopped = count ∙ total-stopped s.cluster s.past vs are;
 }
 
 -- the history may as well be written as another that is equal

@@ -1,10 +1,11 @@
 //! A history as it goes on.
-ghost use Rattle.std.specs.Prelude.{◌≡◌, ◌<◌, ◌≤◌, ◌∷◌, [], length, false, drop, slice_get, Some, IfOk, IfErr, IfSome, OnErr, OnOk, MatchOption};
+ghost use Rattle.std.specs.Prelude.{◌≡◌, ◌<◌, ◌≤◌, ◌∷◌, [], length, true, false, drop, reverse, slice_get, Some, IfOk, IfErr, IfSome, OnErr, OnOk, MatchOption};
 ghost use Rattle.history_model.specs.declared.events.Event.TheVariants as events;
 ghost use Rattle.history_model.specs.Legal.{IsLegal};
+ghost use Rattle.history_model.specs.State.{is_up};
 ghost use Rattle.history_model.specs.Sweeps.{IsVerdict};
 ghost use Rattle.journal_model.specs.Report.{stopped_total};
-ghost use Rattle.journal_model.specs.Verdicts.{report_text};
+ghost use Rattle.journal_model.specs.Verdicts.{AreVerdicts, report_text};
 ghost use Rattle.run_model.specs.Schedule.{IsWithinLimits};
 ghost use Rattle.node_collectors.specs.Standing.{AreCollectorsAt, is_of_collector};
 ghost use Rattle.node_collectors.specs.Wanted.{IsFirstUnhanded};
@@ -17,7 +18,7 @@ ghost use Rattle.cluster_course.specs.Halting.{IsHalt};
 
 use crate::halt::Halt;
 use crgc_ids::{NoMemory, NodeId};
-use evidence_report::report;
+use evidence_report::{report, stopped_by_all};
 use history_model::{Event, History, Verdict};
 use node_collectors::NodeCollectors;
 use std::alloc::Global;
@@ -63,6 +64,26 @@ impl Course {
             verdicts: Vec::new(alloc),
             stopped: 0,
         })
+    }
+
+    /// The course of a history that others made, with the collectors of its nodes and the verdicts of its sweeps, the oldest
+    /// first. Linear in the verdicts.
+    pub fn of(world: World, collectors: NodeCollectors, verdicts: Vec<Verdict>) -> Course
+        requires within { IsWithinLimits world.cluster world.past }
+        requires collectors { AreCollectorsAt world.cluster world.past collectors }
+        requires verdicts { AreVerdicts world.cluster world.past (reverse verdicts.items) }
+        ensures { result ≡ world }
+    {
+        // No more actors are stopped than there are events.
+        world.is_lawful();
+        let _events = world.history().len();
+        let stopped = stopped_by_all(verdicts.as_slice());
+        Course {
+            world,
+            collectors: Some(collectors),
+            verdicts,
+            stopped,
+        }
     }
 
     /// The event happens, and what it tells is the answer; or the answer is what hinders it: the first rule that it breaks, or
@@ -169,12 +190,13 @@ impl Course {
         self.world.into_history()
     }
 
-    /// The first number, from 0 on, under which no bulletin of the origin was handed to the node. `NoMemory` comes only where
-    /// memory ran out at a hand or a sweep before. Logarithmic time in the number of bulletins that wait there, for each that
-    /// waits and may be folded next.
+    /// The first number, from 0 on, under which no bulletin of the origin was handed to the node, which is up. `NoMemory` comes
+    /// only where memory ran out at a hand or a sweep before. Logarithmic time in the number of bulletins that wait there, for
+    /// each that waits and may be folded next.
     pub fn wants(&self, to: NodeId, origin: NodeId) -> Result<u32, NoMemory>
         requires to { to < self.now.cluster.nodes }
         requires origin { origin < self.now.cluster.nodes }
+        requires up { is_up to self.now.past ≡ true }
         ensures { IfOk result (IsFirstUnhanded to origin self.now.past) }
     {
         match &self.collectors {
@@ -279,13 +301,14 @@ fn may_sweep(world: &World, node: NodeId) -> Result<(), Halt>
     }
 }
 
-/// The verdict of a sweep by the node; then its collector stands at the history with that sweep.
+/// The verdict of a sweep by the node, which is up; then its collector stands at the history with that sweep.
 fn verdict_of(
     collectors: &mut Option<NodeCollectors>,
     world: &World,
     node: NodeId,
 ) -> Result<Verdict, NoMemory>
     requires node { node < world.now.cluster.nodes }
+    requires up { is_up node world.now.past ≡ true }
     requires stand { IfSome collectors.old (AreCollectorsAt world.now.cluster world.now.past) }
     ensures verdict { IfOk result (IsVerdict world.now.cluster node world.now.past) }
     ensures found { IfOk result (IsFoundBySweep world.now) }

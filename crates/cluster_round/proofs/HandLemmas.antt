@@ -34,6 +34,10 @@ handed-down cl m o k h down =
 pub none-handed : (cl : Cluster) (m o : ℕ) (h : List Event) → is_up m h ≡ false → h ≡ handed_from cl m o h
 none-handed cl m o h down = each-skip (handed cl m o) h h 0 (length (stream cl o h)) (omega arith) refl (λ k _ _. handed-down cl m o k h down)
 
+-- a node that is up stays so where a hand is tried
+pub hand-up : (cl : Cluster) (n m o k : ℕ) (h : List Event) → IsTrue (is_up n h) → IsTrue (is_up n (tried cl (Hand m o k) h))
+hand-up cl n m o k h up = tried-makes (λ g. IsTrue (is_up n g)) cl (Hand m o k) h (λ _. up) (λ _. up)
+
 -- the bulletins of o up to a number were handed to m, and from there on the first number that is wanted is known
 pub record IsHandedUpTo (cl : Cluster) (m o : ℕ) (h now : List Event) (end number : ℕ) : Type 0 where
   pub long : end ≡ length (stream cl o h)

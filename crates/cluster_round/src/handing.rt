@@ -103,10 +103,11 @@ fn hand_numbers(
     Ok(())
 }
 
-/// One bulletin is handed, unless a rule refuses it, and the answer is the first number that is wanted then.
+/// One bulletin is handed to a node that is up, unless a rule refuses it; the answer is the first number that is wanted then.
 fn hand_next(course: &mut Course, to: NodeId, origin: NodeId, number: u32) -> Result<u32, RoundHalt>
     requires to { to < course.old.cluster.nodes }
     requires origin { origin < course.old.cluster.nodes }
+    requires up { IsTrue (is_up to course.old.past) }
     ensures cluster { course.new.cluster ≡ course.old.cluster }
     ensures ok { OnOk result (course.new.past ≡ tried course.old.cluster (events.Hand to origin number) course.old.past) }
     ensures next { IfOk result (IsFirstUnhanded to origin course.new.past) }

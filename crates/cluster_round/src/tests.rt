@@ -5,9 +5,11 @@ use crate::round;
 use cluster_course::Course;
 use crgc_ids::{ActorId, NodeId};
 use history_model::Event;
+use node_collectors::NodeCollectors;
 use std::alloc::Global;
 use std::process::Abort;
 use std::test::Fail;
+use true_config::World;
 
 fn follow(course: &mut Course, event: Event) -> Result<(), Fail>
     requires { CarriesFew event }
@@ -43,18 +45,35 @@ fn after_round(course: &mut Course) -> Result<u64, Fail> {
     }
 }
 
-#[test]
-fn a_round_tells_hands_and_sweeps_what_is_left(rt: HostRuntime) -> Result<(), Fail> {
+/// How many events the course of an empty history of one node has after one round and after another, in the midst of a turn.
+fn after_two_rounds(course: &mut Course) -> Result<(u64, u64), Fail> {
     let node = NodeId::new(0).ok_or("node 0")?;
     let actor = ActorId::new(node, 0).ok_or("0.0")?;
     let child = ActorId::new(node, 1).ok_or("0.1")?;
-    let Ok(mut course) = Course::begin(rt.alloc(), 1, 2) else {
-        return Err(Fail::new("no memory"));
-    };
-    begin_turn(&mut course, actor)?;
-    follow(&mut course, Event::Spawn { parent: actor })?;
-    follow(&mut course, Event::Flush { actor: child })?;
-    assert_eq!(rt; after_round(&mut course)?, 14);
-    assert_eq!(rt; after_round(&mut course)?, 15);
+    begin_turn(course, actor)?;
+    follow(course, Event::Spawn { parent: actor })?;
+    follow(course, Event::Flush { actor: child })?;
+    let first = after_round(course)?;
+    Ok((first, after_round(course)?))
+}
+
+/// The course of an empty history, made of its parts.
+fn course_of_parts(alloc: Global) -> Result<Course, Fail> {
+    let world = World::new(alloc, 1, 2)?;
+    let collectors = NodeCollectors::new(alloc, 1)?;
+    Ok(Course::of(world, collectors, Vec::new(alloc)))
+}
+
+#[test]
+fn a_round_tells_hands_and_sweeps_what_is_left(rt: HostRuntime) -> Result<(), Fail> {
+    let mut course = Course::begin(rt.alloc(), 1, 2)?;
+    assert_eq!(rt; after_two_rounds(&mut course)?, (14, 15));
+    Ok(())
+}
+
+#[test]
+fn collectors_that_a_course_is_given_take_part_in_its_rounds(rt: HostRuntime) -> Result<(), Fail> {
+    let mut course = course_of_parts(rt.alloc())?;
+    assert_eq!(rt; after_two_rounds(&mut course)?, (14, 15));
     Ok(())
 }

@@ -1,11 +1,13 @@
 //! The collector.
 ghost use Rattle.std.specs.Prelude.{◌≡◌, ◌++◌, ◌+◌, ◌<◌, ◌≤◌, true, false, Ok, IfErr, IfOk, OnErr, OnOk, length, sum};
 ghost use Rattle.std.specs.List.{AllByRecursion};
+ghost use Rattle.crgc_ids.specs.Actor.{Actor};
 ghost use Rattle.gossip_core.specs.Gossip.{IsFirstMissing};
 ghost use Rattle.pseudoroot_trace.specs.Marked.{IsSweepBy};
 ghost use Rattle.pseudoroot_trace.specs.Traced.{is_marked_in};
+ghost use Rattle.shadow_graph.specs.Seen.{is_dropped};
 ghost use Rattle.shadow_table.specs.Shadows.{is_named};
-ghost use Rattle.collector.specs.Collected.{IsNew, IsSettled, has_number, node_count};
+ghost use Rattle.collector.specs.Collected.{IsNew, IsSettled, has_number, node_count, was_stopped};
 ghost use Rattle.collector.specs.Refusals.{IsFit, IsRefusal, read_as};
 ghost use Rattle.collector.specs.Sweeping.{Compacts, Finds, SetsFlags, Sweeps};
 ghost use Rattle.collector.specs.Taking.{Folds, IsAnswer, IsTaken, Keeps, LeavesAsWas, Takes};
@@ -35,8 +37,8 @@ pub enum Taken {
 }
 
 /// The collector of one node. It knows nothing but the bulletins that it was given. It keeps its allocator, the marks of its last
-/// sweep, room for marks in rounds, and whom it stopped and did not drop yet. Contracts see its node, the bulletins that wait and the cut, the shadow
-/// graph, and whom it stopped.
+/// sweep, room for marks in rounds, and whom it stopped and did not drop yet. Contracts see its node, the bulletins that wait and the
+/// cut, the shadow graph, and whom it stopped.
 #[derive(Drop)]
 pub struct Collector {
     alloc: Global,
@@ -129,6 +131,13 @@ impl Collector {
         ensures { result.now ≡ self.now.graph }
     {
         self.graph.graph()
+    }
+
+    /// Whom it dropped it has stopped. It does nothing: its contract is the law.
+    pub fn is_lawful(&self)
+        ensures { (a : Actor) → is_dropped self.now.graph a ≡ true → was_stopped self.now a ≡ true }
+    {
+        let _graph = &self.graph;
     }
 
     /// The bytes of the origin's bulletin of this number are taken. It waits until all before it are folded, and then it is

@@ -44,7 +44,7 @@ pub fn stopped_by_node(verdicts: &[Verdict], node: NodeId) -> u64
     stopped
 }
 
-/// How many actors the verdicts stop.
+/// How many actors the verdicts stop. Linear in the verdicts.
 pub fn stopped_by_all(verdicts: &[Verdict]) -> u64
     requires { stops_in verdicts.now < 2 ^ 64 }
     ensures { result ≡ stops_in verdicts.now }

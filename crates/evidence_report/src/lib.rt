@@ -8,6 +8,7 @@ pub mod laws;
 mod reports;
 mod text;
 
+pub use counts::stopped_by_all;
 pub use reports::report;
 
 #[cfg(test)]

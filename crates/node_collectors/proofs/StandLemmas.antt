@@ -8,8 +8,10 @@ use Rattle.history_model.specs.declared.events.Event.TheVariants.{Hand, Sweep}
 use Rattle.history_model.specs.declared.records.Verdict.{Verdict}
 use Rattle.history_model.specs.Cluster.{Cluster}
 use Rattle.history_model.specs.Legal.{IsLegal}
+use Rattle.history_model.specs.State.{is_up}
 use Rattle.history_model.specs.Streams.{stream}
 use Rattle.history_model.specs.Sweeps.{IsVerdict}
+use Rattle.history_model.proofs.AccountsGrowth.{up-before}
 use Rattle.history_model.proofs.Basics.{legal-kept}
 use Rattle.bulletin_streams.specs.Standing.{IsWithinLimits}
 use Rattle.bulletin_streams.proofs.BoundLemmas.{stream-short}
@@ -37,7 +39,7 @@ pub changes-one : (cl : Cluster) (h : List Event) (e : Event) (n : ℕ) (c : Col
     → ((m : ℕ) → m ≢ n → is_own m e ≡ false) → IsCollectorAt cl (e ∷ h) n c → AreCollectorsAt cl (e ∷ h) (set old n c)
 changes-one cl h e n c old at others here = record {
   count = length-set old n c ∙ at.count;
-  each = λ m d is. (
+  each = λ m d is up. (
       let inside = slice_get_within (set old n c) m d is in
       let long = length-set old n c in
       let value : get_or (set old n c) m d ≡ d = get_or_from_slice_get (set old n c) m d d is in
@@ -48,7 +50,7 @@ changes-one cl h e n c old at others here = record {
             )
         | inr apart ↦ (
             let before : slice_get old m ≡ Some d = slice_get-get_or old m d (omega arith) ∙ ap (λ x. Some x) (sym (get_or-set_other old n m c d apart) ∙ value) in
-            follows-others cl h m d e (others m apart) (at.each m d before)
+            follows-others cl h m d e (others m apart) (at.each m d before (up-before m (e ∷ []) h up))
             )
       ]
       );
@@ -59,7 +61,7 @@ pub changes-none : (cl : Cluster) (h : List Event) (e : Event) (cs : List Collec
     → AreCollectorsAt cl (e ∷ h) cs
 changes-none cl h e cs other at = record {
   count = at.count;
-  each = λ m c is. follows-others cl h m c e (of-none m e other) (at.each m c is);
+  each = λ m c is up. follows-others cl h m c e (of-none m e other) (at.each m c is (up-before m (e ∷ []) h up));
 }
   where
     of-none : (m : ℕ) (e : Event) → is_of_collector e ≡ false → is_own m e ≡ false
@@ -81,12 +83,12 @@ if_ok-on P Q (Err e) then is = tt
 -- ---- one collector among all
 
 module _ (cl : Cluster) (h : List Event) (old items : List Collected) (i n : ℕ) (same : items ≡ old) (place : i ≡ n) (at : AreCollectorsAt cl h old) where
-  -- what is read at a node's place is its collector
-  pub row-at : (was : Collected) → n < cl.nodes → was ≡ get_or items i was → IsCollectorAt cl h n was
-  row-at was inside is = (
+  -- what is read at the place of a node that is up is its collector
+  pub row-at : (was : Collected) → n < cl.nodes → is_up n h ≡ true → was ≡ get_or items i was → IsCollectorAt cl h n was
+  row-at was inside up is = (
       let count = at.count in
       let there : slice_get old n ≡ Some (get_or old n was) = slice_get-get_or old n was (omega arith) in
-      at.each n was (there ∙ ap (λ x. Some x) (sym (is ∙ (λ j. get_or (same j) (place j) was))))
+      at.each n was (there ∙ ap (λ x. Some x) (sym (is ∙ (λ j. get_or (same j) (place j) was)))) up
       )
 
   -- and so it is with what is written there
@@ -99,11 +101,12 @@ pub split-last : (h : List Event) (e : Event) → slice_get h 0 ≡ Some e → e
 split-last [] e is = absurd (cc)
 split-last (x ∷ h) e is = (let same : x ≡ e = cc in ap (λ y. y ∷ h) (sym same))
 
--- a hand that is legal is of two nodes of the cluster
-pub hand-inside : (cl : Cluster) (h : List Event) (m o k : ℕ) → slice_get h 0 ≡ Some (Hand m o k) → IsLegal cl h → (m < cl.nodes) × (o < cl.nodes)
+-- a hand that is legal is of two nodes of the cluster, and the one to which it goes was up before
+pub hand-inside : (cl : Cluster) (h : List Event) (m o k : ℕ) → slice_get h 0 ≡ Some (Hand m o k) → IsLegal cl h
+    → (m < cl.nodes) × (o < cl.nodes) × (is_up m (drop 1 h) ≡ true)
 hand-inside cl h m o k last legal =
     let kept = legal-kept cl (Hand m o k) (drop 1 h) (subst (IsLegal cl) (sym (split-last h (Hand m o k) last)) legal) in
-    (ltb-true m cl.nodes kept.0, ltb-true o cl.nodes kept.1.0)
+    (ltb-true m cl.nodes kept.0, ltb-true o cl.nodes kept.1.0, kept.1.1.0)
 
 -- a stream of a history within its limits has so few bulletins that the number of a hand is below 1,000,000
 pub hand-short : (cl : Cluster) (h : List Event) (m o k : ℕ) → slice_get h 0 ≡ Some (Hand m o k) → IsWithinLimits cl h → k < 1000000
@@ -124,7 +127,8 @@ pub hands : (cl : Cluster) (h : List Event) (m o k : ℕ) (old items : List Coll
 hands cl h m o k old items i was new bytes taken_bytes last legal at same place is told read takes taken =
     let p = drop 1 h in
     let whole = split-last h (Hand m o k) last in
-    let here = row-at cl p old items i m same place at was (hand-inside cl h m o k last legal).0 is in
+    let inside = hand-inside cl h m o k last legal in
+    let here = row-at cl p old items i m same place at was inside.0 inside.2 is in
     let before : IsOfStreams (λ x. stream cl x p) o k bytes = subst (λ q. IsOfStreams (λ x. stream cl x q) o k bytes) (sym whole) told in
     let follows = follows-hand cl p m o k bytes was new before (subst (λ b. Takes o k b was new) read takes) taken here in
     subst (λ q. AreCollectorsAt cl q (set items i new)) whole
@@ -139,14 +143,15 @@ hands-again cl h m o k old items i was last at same place is there =
     let event = Hand m o k in
     subst (λ q. AreCollectorsAt cl q old) (split-last h event last) (record {
       count = at.count;
-      each = λ y c found. elim (cases_eq y m) [
-        | inl own ↦ (
-            let one : c ≡ was = sym (get_or_from_slice_get old y c was found) ∙ (λ j. get_or old (own j) was) ∙ sym (is ∙ (λ j. get_or (same j) (place j) was)) in
-            let has : has_number c o k ≡ true = ap (λ (d : Collected). has_number d o k) one ∙ there in
-            subst (λ n. IsCollectorAt cl (event ∷ p) n c) (sym own) (follows-again cl p m o k c has (subst (λ n. IsCollectorAt cl p n c) own (at.each y c found)))
-            )
-        | inr apart ↦ follows-others cl p y c event (ne_eqb m y (λ e. apart (sym e))) (at.each y c found)
-      ];
+      each = λ y c found up. (let before = at.each y c found (up-before y (event ∷ []) p up) in
+          elim (cases_eq y m) [
+            | inl own ↦ (
+                let one : c ≡ was = sym (get_or_from_slice_get old y c was found) ∙ (λ j. get_or old (own j) was) ∙ sym (is ∙ (λ j. get_or (same j) (place j) was)) in
+                let has : has_number c o k ≡ true = ap (λ (d : Collected). has_number d o k) one ∙ there in
+                subst (λ n. IsCollectorAt cl (event ∷ p) n c) (sym own) (follows-again cl p m o k c has (subst (λ n. IsCollectorAt cl p n c) own before))
+                )
+            | inr apart ↦ follows-others cl p y c event (ne_eqb m y (λ e. apart (sym e))) before
+          ]);
     })
 
 -- ---- sweeps

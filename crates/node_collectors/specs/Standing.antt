@@ -5,14 +5,15 @@ use Rattle.history_model.specs.declared.events.Event.TheVariants.{Hand, Sweep}
 use Rattle.history_model.specs.declared.records.Bulletin.{Bulletin}
 use Rattle.history_model.specs.declared.records.Verdict.{Verdict}
 use Rattle.history_model.specs.Cluster.{Cluster}
+use Rattle.history_model.specs.State.{is_up}
 use Rattle.collector.specs.Collected.{Collected, IsCollectorAt}
 use Rattle.collector.specs.Refusals.{read_as}
 use Rattle.collector.specs.Sweeping.{Compacts, Sweeps}
 
--- there is one for each node, and it is its node's at the history
+-- there is one for each node, and that of a node that is up is its node's at the history
 pub record AreCollectorsAt (cl : Cluster) (h : List Event) (cs : List Collected) : Type 0 where
   pub count : length cs ≡ cl.nodes
-  pub each : (m : ℕ) (c : Collected) → slice_get cs m ≡ Some c → IsCollectorAt cl h m c
+  pub each : (m : ℕ) (c : Collected) → slice_get cs m ≡ Some c → is_up m h ≡ true → IsCollectorAt cl h m c
 
 -- whether the event is one of a collector: a hand or a sweep
 abbrev pub is_of_collector : Event → Bool

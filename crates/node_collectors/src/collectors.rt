@@ -1,8 +1,9 @@
 //! The collectors.
-ghost use Rattle.std.specs.Prelude.{◌≡◌, ◌∷◌, ◌<◌, ◌≤◌, [], List, Some, drop, length, slice_get, IfOk, OnErr, OnOk};
+ghost use Rattle.std.specs.Prelude.{◌≡◌, ◌∷◌, ◌<◌, ◌≤◌, [], List, Some, drop, length, slice_get, true, IfOk, OnErr, OnOk};
 ghost use Rattle.history_model.specs.declared.events.Event.{Event};
 ghost use Rattle.history_model.specs.declared.events.Event.TheVariants as events;
 ghost use Rattle.history_model.specs.Cluster.{Cluster};
+ghost use Rattle.history_model.specs.State.{is_up};
 ghost use Rattle.history_model.specs.Streams.{stream};
 ghost use Rattle.history_model.specs.Sweeps.{IsVerdict};
 ghost use Rattle.true_config.specs.Promises.{IsFoundBySweep};
@@ -51,7 +52,14 @@ impl NodeCollectors {
                 return Err(NoMemory);
             };
         }
-        Ok(NodeCollectors { alloc, rows })
+        Ok(NodeCollectors::of(alloc, rows))
+    }
+
+    /// The collectors of a cluster's nodes, given in the order of the nodes. Constant time.
+    pub fn of(alloc: Global, rows: Vec<Collector>) -> NodeCollectors
+        ensures { result ≡ rows.items }
+    {
+        NodeCollectors { alloc, rows }
     }
 
     /// A bulletin goes to the collector of a node, as the world's last event says, a hand to that node: where the collectors
@@ -81,11 +89,12 @@ impl NodeCollectors {
         }
     }
 
-    /// The verdict of a sweep by the node in the world's history. Afterwards the collectors stand at the history with that
-    /// sweep, and the collector has dropped whom it stopped. After `NoMemory` all is as before. Linear time in the collector's
-    /// graph, and in proportion to n log n for n stops and their owners.
+    /// The verdict of a sweep by the node, which is up, in the world's history. Afterwards the collectors stand at the history
+    /// with that sweep, and the collector has dropped whom it stopped. After `NoMemory` all is as before. Linear time in the
+    /// collector's graph, and in proportion to n log n for n stops and their owners.
     pub fn sweep(&mut self, world: &World, node: NodeId) -> Result<Verdict, NoMemory>
         requires node { node < world.now.cluster.nodes }
+        requires up { is_up node world.now.past ≡ true }
         requires stand { AreCollectorsAt world.now.cluster world.now.past self.old }
         ensures verdict { IfOk result (IsVerdict world.now.cluster node world.now.past) }
         ensures found { IfOk result (IsFoundBySweep world.now) }
@@ -97,10 +106,12 @@ impl NodeCollectors {
     }
 
     /// The first number, from 0 on, under which no bulletin of the origin was handed to the node, in each history at which the
-    /// collectors stand. Logarithmic time in the number of bulletins that wait there, for each that waits and may be folded next.
+    /// collectors stand and the node is up. Logarithmic time in the number of bulletins that wait there, for each that waits and
+    /// may be folded next.
     pub fn wants(&self, to: NodeId, origin: NodeId) -> u32
         requires { to < length self.now }
-        ensures { (cl : Cluster) (h : List Event) → AreCollectorsAt cl h self.now → origin < cl.nodes → IsFirstUnhanded to origin h result }
+        ensures { (cl : Cluster) (h : List Event) → AreCollectorsAt cl h self.now → origin < cl.nodes
+            → is_up to h ≡ true → IsFirstUnhanded to origin h result }
     {
         self.rows[to.get() as usize].wants(origin)
     }

@@ -43,13 +43,13 @@ fn hand(world: &mut World, collectors: &mut NodeCollectors, node: NodeId) -> Res
     Ok(())
 }
 
-/// The node sweeps.
+/// The node sweeps, if it is up.
 fn sweep(world: &mut World, collectors: &mut NodeCollectors, node: NodeId) -> Result<Verdict, Fail>
     requires { AreCollectorsAt world.old.cluster world.old.past collectors.old }
     ensures { OnOk result (AreCollectorsAt world.new.cluster world.new.past collectors.new) }
 {
-    if node.get() >= world.nodes() {
-        return Err(Fail::new("no node"));
+    if node.get() >= world.nodes() || !world.is_up(node) {
+        return Err(Fail::new("no node that is up"));
     }
     let verdict = collectors.sweep(world, node)?;
     let Applied::Done(_) = world.sweep(&verdict)? else {

@@ -18,12 +18,13 @@ pub fn draw_course(text: &mut String, course: &Course) -> Result<(), AllocError>
     writeln!(text, "len {len} stopped {stopped} last verdict {verdict:?}")
 }
 
-/// What the course's collectors want; nothing where they are given up.
+/// What the collectors of the nodes that are up want; nothing where they are given up.
 pub fn draw_wanted(text: &mut String, course: &Course) -> Result<(), AllocError> {
     for to in 0..course.nodes() {
         for origin in 0..course.nodes() {
             if let Some(to) = NodeId::new(to)
                 && let Some(origin) = NodeId::new(origin)
+                && course.world().is_up(to)
                 && let Ok(number) = course.wants(to, origin)
             {
                 writeln!(text, "{to:?} wants {number} of {origin:?}")?;

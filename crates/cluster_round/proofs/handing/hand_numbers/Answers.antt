@@ -78,3 +78,6 @@ pub hand_next-requires-clause-origin : goal.hand_next-requires-clause-origin
 hand_next-requires-clause-origin c =
     let same = ap (λ (x : Cluster). x.nodes) c.loop-number.invariant.cluster in
     omega (arith, same, c.requires.origin)
+
+pub hand_next-requires-clause-up : goal.hand_next-requires-clause-up
+hand_next-requires-clause-up c = c.loop-number.invariant.handed.up

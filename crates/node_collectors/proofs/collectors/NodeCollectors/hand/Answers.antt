@@ -8,7 +8,7 @@ pub take-requires-clause-origin : goal.take-requires-clause-origin
 take-requires-clause-origin c =
     let w = c.args.world.now in
     let inside = hand-inside w.cluster w.past c.args.to c.args.origin c.args.number c.requires.last c.is_lawful.ensures.legal in
-    let at = row-at w.cluster _ c.args.self.now c.self.inside.rows.items c.get-place.result c.args.to (search rules) c.get-place.ensures.number c.requires.stand c.index_mut.result.now inside.0 c.index_mut.ensures.value in
+    let at = row-at w.cluster _ c.args.self.now c.self.inside.rows.items c.get-place.result c.args.to (search rules) c.get-place.ensures.number c.requires.stand c.index_mut.result.now inside.0 inside.2 c.index_mut.ensures.value in
     let nodes = at.fed.nodes in
     omega (arith, inside.1, nodes)
 
@@ -21,7 +21,7 @@ pub want_of-requires : goal.want_of-requires
 want_of-requires c =
     let w = c.args.world.now in
     let inside = hand-inside w.cluster w.past c.args.to c.args.origin c.args.number c.requires.last c.is_lawful.ensures.legal in
-    let at = row-at w.cluster _ c.args.self.now c.self.inside.rows.items c.get-place.result c.args.to (search rules) c.get-place.ensures.number c.requires.stand c.index_mut.result.now inside.0 c.index_mut.ensures.value in
+    let at = row-at w.cluster _ c.args.self.now c.self.inside.rows.items c.get-place.result c.args.to (search rules) c.get-place.ensures.number c.requires.stand c.index_mut.result.now inside.0 inside.2 c.index_mut.ensures.value in
     let read = c.in_ok-bytes.ensures.read in
     none-refused _ read.0 c.in-Err.fault ((λ i. read_as (at.fed.nodes i) c.args.origin (c.as_slice.ensures i)) ∙ read.1) c.in-Err.ensures.refused
 

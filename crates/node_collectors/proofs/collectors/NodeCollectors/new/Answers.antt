@@ -1,6 +1,7 @@
 use Rattle.std.proofs.Common.{◌≡◌, ◌∷◌, ◌++◌, ℕ, [], Some, arith, rules, slice_get, subst, sym, length}
 use Rattle.collector.specs.Collected.{Collected, IsNew}
 use Rattle.collector.proofs.VerdictLemmas.{follows-start}
+use Rattle.node_collectors.specs.Standing.{AreCollectorsAt}
 use Rattle.node_collectors.proofs.StandLemmas.{last-too}
 use Rattle.node_collectors.proofs.collectors.NodeCollectors.new.Goals as goal
 
@@ -16,7 +17,9 @@ loop-number-preserved c =
     }
 
 pub returns : goal.returns
-returns c = λ cl here. record {
-  count = (let done = c.loop-number.invariant.many in omega arith);
-  each = λ m d is. follows-start cl m d (subst (λ n. IsNew m n d) (sym here) (c.loop-number.invariant.new m d is));
-}
+returns c = λ cl here.
+    let stand : AreCollectorsAt cl [] c.loop-number.rows.items = record {
+      count = (let done = c.loop-number.invariant.many in omega arith);
+      each = λ m d is up. follows-start cl m d (subst (λ n. IsNew m n d) (sym here) (c.loop-number.invariant.new m d is));
+    } in
+    subst (AreCollectorsAt cl []) (sym c.of.ensures) stand

@@ -10,13 +10,13 @@ use Rattle.node_collectors.proofs.collectors.NodeCollectors.sweep.Goals as goal
 pub sweep_out-requires : goal.sweep_out-requires
 sweep_out-requires c =
     let w = c.args.world.now in
-    (row-at w.cluster w.past c.args.self.now c.self.inside.rows.items c.get.result c.args.node (search rules) c.get.ensures.number c.requires.stand c.index_mut.result.now c.requires.node c.index_mut.ensures.value).settled
+    (row-at w.cluster w.past c.args.self.now c.self.inside.rows.items c.get.result c.args.node (search rules) c.get.ensures.number c.requires.stand c.index_mut.result.now c.requires.node c.requires.up c.index_mut.ensures.value).settled
 
 pub returns-clause-verdict : goal.returns-clause-verdict
 returns-clause-verdict c =
     let w = c.args.world.now in
     let was = c.index_mut.result.now in
-    let at = row-at w.cluster w.past c.args.self.now c.self.inside.rows.items c.get.result c.args.node (search rules) c.get.ensures.number c.requires.stand was c.requires.node c.index_mut.ensures.value in
+    let at = row-at w.cluster w.past c.args.self.now c.self.inside.rows.items c.get.result c.args.node (search rules) c.get.ensures.number c.requires.stand was c.requires.node c.requires.up c.index_mut.ensures.value in
     if_ok-then (SweepsOut was c.sweep_out.new.collector) (IsVerdict w.cluster c.args.node w.past) c.sweep_out.result
     (λ v sweeps. swept-verdict w.cluster w.past c.args.node was c.sweep_out.new.collector v c.is_lawful.ensures.legal at sweeps) c.sweep_out.ensures.ok
 
@@ -24,7 +24,7 @@ pub returns-clause-found : goal.returns-clause-found
 returns-clause-found c =
     let w = c.args.world.now in
     let was = c.index_mut.result.now in
-    let at = row-at w.cluster w.past c.args.self.now c.self.inside.rows.items c.get.result c.args.node (search rules) c.get.ensures.number c.requires.stand was c.requires.node c.index_mut.ensures.value in
+    let at = row-at w.cluster w.past c.args.self.now c.self.inside.rows.items c.get.result c.args.node (search rules) c.get.ensures.number c.requires.stand was c.requires.node c.requires.up c.index_mut.ensures.value in
     if_ok-then (SweepsOut was c.sweep_out.new.collector) (IsFoundBySweep w) c.sweep_out.result
     (λ v sweeps legal. (
     let is = swept-verdict w.cluster w.past c.args.node was c.sweep_out.new.collector v c.is_lawful.ensures.legal at sweeps in
@@ -36,7 +36,7 @@ returns-clause-ok c =
     let w = c.args.world.now in
     let was = c.index_mut.result.now in
     let items = c.self.inside.rows.items in
-    let at = row-at w.cluster w.past c.args.self.now items c.get.result c.args.node (search rules) c.get.ensures.number c.requires.stand was c.requires.node c.index_mut.ensures.value in
+    let at = row-at w.cluster w.past c.args.self.now items c.get.result c.args.node (search rules) c.get.ensures.number c.requires.stand was c.requires.node c.requires.up c.index_mut.ensures.value in
     if_ok-on (SweepsOut was c.sweep_out.new.collector) _ c.sweep_out.result
     (λ v sweeps. row-changes w.cluster w.past c.args.self.now items c.get.result c.args.node (search rules) c.get.ensures.number c.requires.stand (Sweep c.args.node) c.sweep_out.new.collector
     (λ m apart. ne_eqb c.args.node m (λ e. apart (sym e)))
