@@ -1,9 +1,10 @@
 -- How a node's collector stands to the calls of the pass that claimed its node.
-use Rattle.std.specs.Prelude.{ℕ, ◌≡◌, Bool, true, false, List, nat_lt, Some}
+use Rattle.std.specs.Prelude.{ℕ, ◌≡◌, ◌⊎◌, [], ◌∷◌, Bool, true, false, List, nat_lt, Some}
 use Rattle.std.specs.Option.{is_some}
 use Rattle.crgc_ids.specs.Actor.{Actor}
 use Rattle.history_model.specs.Cluster.{Cluster}
 use Rattle.history_model.specs.Folds.{Fold}
+use Rattle.operation_model.specs.declared.replies.Reply.TheVariants as replies
 use Rattle.operation_model.specs.Deeds.{Deed, handed, swept}
 use Rattle.operation_model.specs.Hands.{given, has_claimed, own_stopped}
 use Rattle.operation_model.specs.Turns.{Calls}
@@ -38,3 +39,8 @@ abbrev pub is_collecting : Deed → Bool
 is_collecting (handed n o k bytes) = true
 is_collecting (swept v) = true
 is_collecting d = false
+
+-- one of the calls was answered that the node is down
+abbrev pub WasToldDown : ℕ → Calls → Type 0
+WasToldDown n [] = ⊥
+WasToldDown n (e ∷ earlier) = (e.reply ≡ replies.Down n) ⊎ WasToldDown n earlier

@@ -4,6 +4,8 @@ ghost use Rattle.crgc_ids.specs.Actor.{Actor};
 ghost use Rattle.turn_lock.specs.History.{calls_of, entry};
 ghost use Rattle.history_model.specs.declared.records.Verdict.{Verdict};
 ghost use Rattle.history_model.specs.Cluster.{Cluster};
+ghost use Rattle.history_model.specs.Compaction.{AreStopped};
+ghost use Rattle.history_model.specs.State.{is_up};
 ghost use Rattle.node_collectors.specs.Standing.{IsRead};
 ghost use Rattle.run_model.specs.Doing.{cluster_of};
 ghost use Rattle.operation_model.specs.declared.operations.Op.{Op};
@@ -11,14 +13,16 @@ ghost use Rattle.operation_model.specs.declared.operations.Op.TheVariants as ops
 ghost use Rattle.operation_model.specs.declared.replies.Reply.{Reply};
 ghost use Rattle.operation_model.specs.declared.replies.Reply.TheVariants as replies;
 ghost use Rattle.operation_model.specs.Answers.{IsCourse};
+ghost use Rattle.operation_model.specs.Courses.{world};
 ghost use Rattle.operation_model.specs.Deeds.{deed_of};
 ghost use Rattle.operation_model.specs.Hands.{IsOwnVerdict, given, has_claimed, own_stopped};
 ghost use Rattle.operation_model.specs.Openings.{IsNew, Opening};
 ghost use Rattle.operation_model.specs.Turns.{Calls};
-ghost use Rattle.collector.specs.Collected.{Collected, IsNew as IsNewCollector, cut_of};
+ghost use Rattle.collector.specs.Collected.{Collected, IsCollectorAt, IsNew as IsNewCollector, cut_of, was_stopped};
 ghost use Rattle.collector.specs.Sweeping.{Compacts, Sweeps};
 ghost use Rattle.collector.specs.Taking.{IsTaken, Takes};
-ghost use Rattle.collected_calls.specs.Collecting.{HasCollected, IsCollectorOf, RemembersMore, is_collecting};
+ghost use Rattle.shadow_graph.specs.Seen.{is_dropped};
+ghost use Rattle.collected_calls.specs.Collecting.{HasCollected, IsCollectorOf, RemembersMore, WasToldDown, is_collecting};
 
 /// A new collector goes with a pass that has claimed its node, and was given nothing for it and swept nothing there yet. It goes on
 /// with each call: where the pass is given the next bulletin of an origin and the collector takes its bytes, where the pass tells
@@ -57,4 +61,14 @@ pub fn a_collectors_verdict_fits()
     ensures own { (o : Opening) (h : Calls) (p : ℕ) (old new : Collected) (v : Verdict) → IsNew o → IsCourse o h
         → IsCollectorOf (cluster_of o.script) (calls_of p h) old → Sweeps old new v
         → IsOwnVerdict (cluster_of o.script) (calls_of p h) v }
+{}
+
+/// The collector of the pass that claimed its node stands at the world's history: of the bulletins it was given those that were handed
+/// to its node, it has folded all of them, and it remembers as stopped whom the node's sweeps stopped. That whomever it dropped was
+/// stopped is so of each collector. A node that a pass was told to be down is down in the world, whatever calls follow.
+pub fn a_collector_stands_at_the_world()
+    ensures stands { (o : Opening) (h : Calls) (p : ℕ) (c : Collected) → IsNew o → IsCourse o h
+        → IsCollectorOf (cluster_of o.script) (calls_of p h) c → AreStopped (is_dropped c.graph) (was_stopped c)
+        → IsCollectorAt (cluster_of o.script) (world o h) c.node c }
+    ensures down { (o : Opening) (h : Calls) (p n : ℕ) → IsCourse o h → WasToldDown n (calls_of p h) → is_up n (world o h) ≡ false }
 {}

@@ -8,6 +8,7 @@ ghost use Rattle.node_collectors.specs.Standing.{IsRead};
 ghost use Rattle.cluster_calls.specs.Calling.{IsSame, last_reply};
 ghost use Rattle.node_threads.specs.Fetching.{AllAreFetched, AreFetchedIfNode, CanCollect, CanFold, EachIsFetched, GoesOrEnds, IsFetched, IsFolded};
 
+use crate::NODES;
 use cluster_calls::{ask, give_up};
 use collector::{Collector, TakeFault};
 use crgc_ids::{NoMemory, NodeId};
@@ -15,9 +16,6 @@ use operation_model::{Halt, Op, Reply};
 use std::sync::Wait;
 use turn_lock::{Pass, TurnLock};
 use world_object::Shared;
-
-// The most nodes that a cluster has.
-const NODES: u8 = 16;
 
 /// The collector takes all bulletins that are there, of each node; whether there were any. None where its node is down.
 pub(crate) fn fetch_each<R: Wait>(

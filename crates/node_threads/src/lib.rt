@@ -10,5 +10,8 @@ mod questions;
 mod rounds;
 mod sweeping;
 
+// The most nodes that a cluster has.
+const NODES: u8 = 16;
+
 pub use collecting::collect;
 pub use pumping::pump;

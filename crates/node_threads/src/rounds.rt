@@ -6,15 +6,13 @@ ghost use Rattle.cluster_calls.specs.Calling.{CanAsk, IsSame, last_reply};
 ghost use Rattle.node_threads.specs.Pumping.{HasAll, HasCarries, HasPublish, HasRemoval, HasWindow, IsFree, Since, SinceOrDown, done_by};
 ghost use Rattle.node_threads.specs.Questions.{IsMade, times_given_up};
 
+use crate::NODES;
 use cluster_calls::ask;
 use crgc_ids::NodeId;
 use operation_model::{Halt, Op, Reply};
 use std::sync::Wait;
 use turn_lock::{Pass, TurnLock};
 use world_object::Shared;
-
-// The most nodes that a cluster has.
-const NODES: u8 = 16;
 
 /// Each link to the node is carried once, and then the node cuts a window, removes a node and publishes, each where it can; whether
 /// any of it could be done. None where the node is down; then it does no more.

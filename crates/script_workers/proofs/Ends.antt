@@ -1,7 +1,7 @@
 -- What the end of a worker tells of the world that the workers leave.
-use Rattle.std.proofs.Common.{◌≡◌, ◌==◌, ◌||◌, ◌++◌, ℕ, Bool, true, false, cond, List, [], ◌∷◌, Option, Some, None, refl, sym, ◌∙◌, ap, subst, inl, inr}
+use Rattle.std.proofs.Common.{◌≡◌, ◌==◌, ◌||◌, ◌++◌, ℕ, Bool, true, false, cond, List, [], ◌∷◌, Option, Some, None, refl, sym, ◌∙◌, append-nil, reverse, ap, subst, inl, inr}
 use Rattle.std.specs.Prelude.{IfErr, IfOk, OnOk, Result, Ok, Err}
-use Rattle.std.specs.List.{list_any}
+use Rattle.std.specs.List.{AllByRecursion, list_any}
 use Rattle.std.proofs.lemmas.Bool.{false≢true}
 use Rattle.std.proofs.lemmas.Option.{none-some, same_Some}
 use Rattle.std.proofs.lemmas.List.Folds.{list_any-append}
@@ -9,12 +9,15 @@ use Rattle.crgc_ids.specs.Actor.{Actor}
 use Rattle.crgc_ids.specs.declared.NoMemory.{NoMemory}
 use Rattle.crgc_ids.specs.declared.Which.{Which}
 use Rattle.history_model.specs.declared.events.Event.{Event}
+use Rattle.history_model.specs.declared.records.Verdict.{Verdict}
+use Rattle.history_model.specs.Cluster.{Cluster}
 use Rattle.history_model.specs.Story.{Story}
 use Rattle.history_model.proofs.Basics.{eqb-refl}
 use Rattle.behaviour_lang.specs.declared.act.Act.{Act}
 use Rattle.behaviour_lang.specs.declared.act.Act.TheVariants as acts
 use Rattle.turn_lock.specs.declared.object.Entry.{Entry}
 use Rattle.turn_lock.specs.History.{IsMadeOf, calls_of}
+use Rattle.journal_model.specs.Verdicts.{AreVerdicts}
 use Rattle.script_reader.specs.Valid.{IsScript}
 use Rattle.run_model.specs.Doing.{cluster_of}
 use Rattle.run_model.specs.Follows.{CouldPass, IsRun, is_over}
@@ -25,16 +28,19 @@ use Rattle.operation_model.specs.declared.replies.Halt.{Halt}
 use Rattle.operation_model.specs.declared.replies.Reply.{Reply}
 use Rattle.operation_model.specs.declared.replies.Reply.TheVariants as replies
 use Rattle.operation_model.specs.Answers.{IsCourse, IsGranted, IsReply, MayAnswer, Refusal, Unless, act_reply, first_refusal, nodes_of, refusals, refused, unknown}
-use Rattle.operation_model.specs.Courses.{claim_at, halt_after, halt_at, is_end, was_all_done, world}
+use Rattle.operation_model.specs.Courses.{claim_at, halt_after, halt_at, is_end, verdicts, was_all_done, world}
 use Rattle.operation_model.specs.Deeds.{deed_of}
 use Rattle.operation_model.specs.Openings.{IsNew, Opening}
 use Rattle.operation_model.specs.Turns.{Calls}
 use Rattle.operation_model.proofs.CourseLaws.{kept-course, limit-course}
 use Rattle.operation_model.proofs.OverCourses.{over-course}
 use Rattle.cluster_calls.specs.Calling.{last_reply}
+use Rattle.collector.specs.Collected.{Collected}
 use Rattle.world_object.specs.Locked.{IsStateOf}
 use Rattle.world_object.specs.State.{ClusterState, as_opening}
-use Rattle.script_workers.specs.Ended.{IsOverUnlessHalted, IsWorked, halt_at_limit}
+use Rattle.script_workers.specs.Ended.{CanBeClosed, IsOverUnlessHalted, IsWorked, halt_at_limit}
+use Rattle.script_workers.specs.Returned.{StandsIfUp}
+use Rattle.script_workers.specs.declared.runs.Worked.{Worked}
 use Rattle.script_workers.specs.Leading.{ends_work, has_end}
 use Rattle.script_workers.proofs.Within.{course-within}
 
@@ -191,7 +197,7 @@ end-done o (e ∷ h) course none is = by_reply (end-done o h course.2) e.reply r
 
 -- ---- the world that they leave
 
-module _ (start : ClusterState) (state : ClusterState) (h : Calls) (script : IsScript start.script) (new : IsNew (as_opening start)) (stands : IsStateOf (as_opening start) h (as_opening state)) (found : has_end h ≡ true) (left : Story) (cluster : left.cluster ≡ cluster_of state.script) (past : left.past ≡ state.past) where
+module _ (start : ClusterState) (state : ClusterState) (h : Calls) (script : IsScript start.script) (new : IsNew (as_opening start)) (stands : IsStateOf start h state) (found : has_end h ≡ true) (left : Story) (cluster : left.cluster ≡ cluster_of state.script) (past : left.past ≡ state.past) where
   same : world (as_opening start) h ≡ left.past
   same = sym (past ∙ stands.past)
 
@@ -215,9 +221,40 @@ module _ (start : ClusterState) (state : ClusterState) (h : Calls) (script : IsS
         ends = leaves w halted;
       }
 
+  -- so the run can be closed, with the collectors that stand at its history
+  module _ (none : start.verdicts ≡ []) (cs : List Collected) (back : AllByRecursion (StandsIfUp (cluster_of start.script) (world (as_opening start) h)) cs) where
+    same-cluster : cluster_of start.script ≡ left.cluster
+    same-cluster = sym (cluster ∙ ap cluster_of stands.script)
+
+    at-left : (P : Cluster → List Event → Type 0) → P (cluster_of start.script) (world (as_opening start) h) → P left.cluster left.past
+    at-left P is = subst (λ cl. P cl left.past) same-cluster (subst (P (cluster_of start.script)) same is)
+
+    pub verdicts-left : (vs : List Verdict) → reverse vs ≡ state.verdicts → AreVerdicts left.cluster left.past (reverse vs)
+    verdicts-left vs is =
+        let kept = kept-course (as_opening start) new h stands.course in
+        let listed : verdicts h ≡ reverse vs = sym (is ∙ stands.verdicts ∙ ap (λ (l : List Verdict). verdicts h ++ l) none ∙ append-nil (verdicts h)) in
+        at-left (λ cl p. AreVerdicts cl p (reverse vs)) (subst (AreVerdicts (cluster_of start.script) (world (as_opening start) h)) listed kept.hands.verdicts_are)
+
+    pub within-left : IsWithinLimits left.cluster left.past
+    within-left = at-left IsWithinLimits (course-within (as_opening start) script new h stands.course)
+
+    pub back-left : AllByRecursion (StandsIfUp left.cluster left.past) cs
+    back-left = at-left (λ cl p. AllByRecursion (StandsIfUp cl p) cs) back
+
 -- the answer of a run of turns
-pub worked-of : (start state : ClusterState) (h : Calls) → IsScript start.script → IsNew (as_opening start) → IsStateOf (as_opening start) h (as_opening state) → has_end h ≡ true
-    → (r : Result (Story × Option Which) NoMemory) → IfOk r (λ x. x.0.cluster ≡ cluster_of state.script) → IfOk r (λ x. x.0.past ≡ state.past)
-    → IfOk r (λ x. state.halt ≡ halt_at_limit x.1) → IfOk r (λ x. IsWorked start.script x.0 x.1)
-worked-of start state h script new stands found (Ok x) cluster past halted = is-worked start state h script new stands found x.0 cluster past x.1 halted
+pub worked-of : (start state : ClusterState) (h : Calls) → IsScript start.script → IsNew (as_opening start) → IsStateOf start h state → has_end h ≡ true
+    → (r : Result Worked NoMemory) → IfOk r (λ x. x.world.cluster ≡ cluster_of state.script) → IfOk r (λ x. x.world.past ≡ state.past)
+    → IfOk r (λ x. state.halt ≡ halt_at_limit x.halted) → IfOk r (λ x. IsWorked start.script x.world x.halted)
+worked-of start state h script new stands found (Ok x) cluster past halted = is-worked start state h script new stands found x.world cluster past x.halted halted
 worked-of start state h script new stands found (Err e) cluster past halted = tt
+
+pub closable-of : (start state : ClusterState) (h : Calls) → IsScript start.script → IsNew (as_opening start) → IsStateOf start h state → has_end h ≡ true
+    → start.verdicts ≡ [] → (cs : List Collected) → AllByRecursion (StandsIfUp (cluster_of start.script) (world (as_opening start) h)) cs
+    → (r : Result Worked NoMemory) → IfOk r (λ x. x.world.cluster ≡ cluster_of state.script) → IfOk r (λ x. x.world.past ≡ state.past)
+    → IfOk r (λ x. reverse x.verdicts.items ≡ state.verdicts) → IfOk r (λ x. x.back.items ≡ cs) → IfOk r CanBeClosed
+closable-of start state h script new stands found none cs back (Ok x) cluster past listed kept = record {
+  within = within-left start state h script new stands found x.world cluster past none cs back;
+  verdicts = verdicts-left start state h script new stands found x.world cluster past none cs back x.verdicts.items listed;
+  back = subst (AllByRecursion (StandsIfUp x.world.cluster x.world.past)) (sym kept) (back-left start state h script new stands found x.world cluster past none cs back);
+}
+closable-of start state h script new stands found none cs back (Err e) cluster past listed kept = tt

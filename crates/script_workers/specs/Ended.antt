@@ -1,8 +1,9 @@
 -- What workers make of a script before the closing round, and what the whole run comes to.
-use Rattle.std.specs.Prelude.{◌≡◌, Bool, true, List, ℕ, Option, Some, None}
+use Rattle.std.specs.Prelude.{◌≡◌, Bool, true, List, ℕ, Option, Some, None, reverse}
+use Rattle.std.specs.List.{AllByRecursion}
 use Rattle.crgc_ids.specs.declared.Which.{Which}
 use Rattle.history_model.specs.Story.{Story}
-use Rattle.journal_model.specs.Verdicts.{report_text}
+use Rattle.journal_model.specs.Verdicts.{AreVerdicts, report_text}
 use Rattle.script_reader.specs.Valid.{Scripted}
 use Rattle.run_model.specs.Doing.{cluster_of}
 use Rattle.run_model.specs.Follows.{CouldPass, Follows, IsRun, IsUnfinished, is_over}
@@ -11,6 +12,8 @@ use Rattle.operation_model.specs.declared.replies.Halt.{Halt}
 use Rattle.operation_model.specs.declared.replies.Halt.TheVariants.{Limit}
 use Rattle.script_workers.specs.declared.fault.WorkersFault.{WorkersFault}
 use Rattle.script_workers.specs.declared.fault.WorkersFault.TheVariants as faults
+use Rattle.script_workers.specs.declared.runs.Worked.{Worked}
+use Rattle.script_workers.specs.Returned.{StandsIfUp}
 
 -- the halt at a limit, if there is one
 abbrev pub halt_at_limit : Option Which → Option Halt
@@ -28,6 +31,13 @@ pub record IsWorked (s : Scripted) (w : Story) (halted : Option Which) : Type 0 
   pub run : IsRun s w.past
   pub within : IsWithinLimits (cluster_of s) w.past
   pub ends : IsOverUnlessHalted s w halted
+
+-- the world is within its limits, the verdicts are those of its sweeps, the oldest first, and each collector that came back is its
+-- node's at the world's history, where the node is up
+pub record CanBeClosed (left : Worked) : Type 0 where
+  pub within : IsWithinLimits left.world.cluster left.world.past
+  pub verdicts : AreVerdicts left.world.cluster left.world.past (reverse left.verdicts.items)
+  pub back : AllByRecursion (StandsIfUp left.world.cluster left.world.past) left.back.items
 
 -- the text is the report of the history, which follows the script and passed no limit
 pub record IsFinishedRun (s : Scripted) (brief : Bool) (text : List ℕ) (h : Story) : Type 0 where

@@ -1,3 +1,4 @@
+pub mod Returned
 pub mod Leading
 pub mod Ended
 pub mod Closed

@@ -1,24 +1,52 @@
 //! The round that closes a run.
-ghost use Rattle.std.specs.Prelude.{◌≡◌, IfErr, IfOk, None, OnOk};
+ghost use Rattle.std.specs.Prelude.{◌≡◌, IfErr, IfOk, IfSome, None, OnOk, reverse};
+ghost use Rattle.std.specs.List.{AllByRecursion};
 ghost use Rattle.history_model.specs.Legal.{IsLegal, refusal};
 ghost use Rattle.journal_model.specs.Limits.{limit_passed};
+ghost use Rattle.journal_model.specs.Verdicts.{AreVerdicts};
+ghost use Rattle.node_collectors.specs.Standing.{AreCollectorsAt};
 ghost use Rattle.run_model.specs.Schedule.{IsWithinLimits};
 ghost use Rattle.true_config.specs.Applying.{CarriesFew};
 ghost use Rattle.true_config.specs.Steps.{Adds};
 ghost use Rattle.script_workers.specs.Closed.{CarryFew, IsClosed, IsHalfClosed};
+ghost use Rattle.script_workers.specs.Returned.{StandsIfUp};
 
 use crate::fault::WorkersFault;
+use crate::gathering::by_node;
 use crate::runs::Finished;
 use cluster_course::{Course, Halt};
 use cluster_round::{RoundHalt, round};
+use collector::Collector;
 use crgc_ids::NoMemory;
-use history_model::{Event, History};
+use history_model::{Event, History, Verdict};
 use std::alloc::Global;
 use true_config::World;
 
-/// The report of the world's history, in brief or in full, after one more round; or why there is none. Fresh collectors take what
-/// the history hands to them, and then the round.
-pub(crate) fn close_run(alloc: Global, world: World, brief: bool) -> Result<Finished, WorkersFault>
+/// The report of the world's history, in brief or in full, after one more round; or why there is none. The round goes on with the
+/// collectors that came back and the verdicts of the sweeps, the oldest first. Where a node that is up has none, new ones take all
+/// that the history hands to them.
+pub(crate) fn close_run(
+    alloc: Global,
+    world: World,
+    verdicts: Vec<Verdict>,
+    back: Vec<Collector>,
+    brief: bool,
+) -> Result<Finished, WorkersFault>
+    requires within { IsWithinLimits world.cluster world.past }
+    requires verdicts { AreVerdicts world.cluster world.past (reverse verdicts.items) }
+    requires back { AllByRecursion (StandsIfUp world.cluster world.past) back.items }
+    ensures report { IfOk result (IsClosed world brief) }
+    ensures fault { IfErr result (IsHalfClosed world) }
+{
+    match by_node(alloc, &world, back) {
+        Ok(Some(collectors)) => close(alloc, Course::of(world, collectors, verdicts), brief),
+        Ok(None) => close_anew(alloc, world, brief),
+        Err(NoMemory) => Err(WorkersFault::NoMemory),
+    }
+}
+
+/// The same, with new collectors.
+fn close_anew(alloc: Global, world: World, brief: bool) -> Result<Finished, WorkersFault>
     requires { IsWithinLimits world.cluster world.past }
     ensures report { IfOk result (IsClosed world brief) }
     ensures fault { IfErr result (IsHalfClosed world) }

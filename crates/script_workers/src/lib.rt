@@ -4,6 +4,7 @@
 mod closing;
 mod collecting;
 mod fault;
+mod gathering;
 mod runs;
 mod threads;
 

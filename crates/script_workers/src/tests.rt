@@ -2,11 +2,14 @@
 ghost use Rattle.std.specs.Prelude.{◌<◌};
 
 use crate::{Finished, run};
+use crgc_ids::ActorId;
 use crgc_io::{Gate, HoldGate, QuietGate};
 use history_model::{Event, History};
 use script_reader::read_script;
 use std::alloc::Global;
+use std::hint::spin_loop;
 use std::sync::Wait;
+use std::sync::atomic::{AtomicU64, Ordering};
 use std::test::Fail;
 use std::thread::Threads;
 use std::time::Clock;
@@ -64,6 +67,45 @@ fn two_workers_are_in_their_turns_at_once(rt: HostRuntime) -> Result<(), Fail> {
     assert!(rt; gate.met());
     let (wake, rest) = last_wake_and_first_rest(&history);
     assert!(rt; wake < rest);
+    Ok(())
+}
+
+// A gate at which the second turn stays for a while: some tenths of a second.
+#[derive(Drop)]
+struct SlowGate {
+    turns: AtomicU64,
+}
+
+impl Gate for SlowGate {
+    fn turn_begins(&self, _worker: u32, _actor: ActorId) {
+        if self.turns.fetch_add(1, Ordering::SeqCst) == 1 {
+            for _ in 0..20_000_000 {
+                spin_loop();
+            }
+        }
+    }
+}
+
+// Whether some actor of the history rests after some node swept.
+fn rests_after_a_sweep(history: &History) -> bool {
+    let mut swept = false;
+    for event in history.as_slice() {
+        match event {
+            Event::Sweep { .. } => swept = true,
+            Event::Rest { .. } if swept => return true,
+            _ => {}
+        }
+    }
+    false
+}
+
+#[test]
+fn nodes_tell_and_sweep_while_a_turn_goes_on(rt: HostRuntime) -> Result<(), Fail> {
+    let gate = SlowGate {
+        turns: AtomicU64::new(0),
+    };
+    let Finished { report: _, history } = finished(&rt, rt.alloc(), TWO_WAKES, 1, &gate)?;
+    assert!(rt; rests_after_a_sweep(&history));
     Ok(())
 }
 

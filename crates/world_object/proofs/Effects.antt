@@ -48,6 +48,7 @@ happens-makes events old new happens = record {
   script = ap (λ (p : ClusterParts). p.script.value) happens.others;
   claims = ap (λ (p : ClusterParts). p.claims) happens.others;
   halt = ap (λ (p : ClusterParts). p.halt) happens.others;
+  verdicts = ap (λ (p : ClusterParts). p.verdicts) happens.others;
 }
 
 -- the operation is done, whose events happened

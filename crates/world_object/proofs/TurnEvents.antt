@@ -73,6 +73,7 @@ module _ (old mid new : ClusterParts) (es : List Event) (t : Table) (u : Used) (
     script = ap (λ (p : ClusterParts). p.script.value) new-is;
     claims = ap (λ (p : ClusterParts). p.claims) new-is;
     halt = ap (λ (p : ClusterParts). p.halt) new-is;
+    verdicts = ap (λ (p : ClusterParts). p.verdicts) new-is;
   }
 
   pub stands-changed : Stands old → (let s = old.script.value in let h = onto old.world.past es in AreActorsAt s h t × IsProgressAt s h u × IsSound s h) → Stands new

@@ -1,5 +1,5 @@
 -- What an operation makes of the parts of a cluster.
-use Rattle.std.specs.Prelude.{ℕ, ◌≡◌, List, [], get_or, Option, Some, None}
+use Rattle.std.specs.Prelude.{ℕ, ◌≡◌, ◌++◌, List, [], get_or, Option, Some, None}
 use Rattle.history_model.specs.declared.events.Event.{Event}
 use Rattle.history_model.specs.Rows.{onto}
 use Rattle.operation_model.specs.declared.operations.Op.{Op}
@@ -7,7 +7,7 @@ use Rattle.operation_model.specs.declared.replies.Halt.{Halt}
 use Rattle.operation_model.specs.declared.replies.Halt.TheVariants.{Limit, Memory}
 use Rattle.operation_model.specs.declared.replies.Reply.{Reply}
 use Rattle.operation_model.specs.Answers.{IsGranted, MayFollow, PassesLimit, refused}
-use Rattle.operation_model.specs.Courses.{claim_after, events_by}
+use Rattle.operation_model.specs.Courses.{claim_after, events_by, verdict_of}
 use Rattle.operation_model.specs.Deeds.{deed_of}
 use Rattle.world_object.specs.declared.parts.ClusterParts.{ClusterParts}
 use Rattle.world_object.specs.Standing.{opening_of}
@@ -23,13 +23,14 @@ pub record Happens (events : List Event) (old new : ClusterParts) : Type 0 where
   pub past : new.world.past ≡ onto old.world.past events
   pub others : new ≡ record old { world = new.world }
 
--- the events follow, and the world has them; script, claims and halt are as before
+-- the events follow, and the world has them; script, claims, halt and verdicts are as before
 pub record Makes (events : List Event) (old new : ClusterParts) : Type 0 where
   pub follow : MayFollow old.script.value events old.world.past
   pub past : new.world.past ≡ onto old.world.past events
   pub script : new.script.value ≡ old.script.value
   pub claims : new.claims ≡ old.claims
   pub halt : new.halt ≡ old.halt
+  pub verdicts : new.verdicts ≡ old.verdicts
 
 -- why a cluster halts before these events: one of them would pass the limit; want of memory says nothing
 abbrev pub HaltsBefore : ClusterParts → List Event → Halt → Type 0
@@ -59,7 +60,7 @@ pub record IsClaimed (node pass : ℕ) (old new : List (Option ℕ)) : Type 0 wh
   pub own : get_or new node None ≡ Some pass
   pub others : (n : ℕ) → (n ≡ node → ⊥) → get_or new n None ≡ get_or old n None
 
--- the operation of the pass is granted with this reply, and its events happen; a claim is noted
+-- the operation of the pass is granted with this reply, and its events happen; a claim is noted, and the verdict of a sweep is kept
 pub record IsGrantedTo (pass : ℕ) (op : Op) (old new : ClusterParts) (r : Reply) : Type 0 where
   pub granted : Grants old op r
   pub follow : MayFollow old.script.value (events_of old op r) old.world.past
@@ -67,3 +68,4 @@ pub record IsGrantedTo (pass : ℕ) (op : Op) (old new : ClusterParts) (r : Repl
   pub script : new.script.value ≡ old.script.value
   pub claims : (n : ℕ) → get_or new.claims n None ≡ claim_after (deed_of op r) pass n (get_or old.claims n None)
   pub halt : new.halt ≡ old.halt
+  pub verdicts : new.verdicts ≡ verdict_of (deed_of op r) ++ old.verdicts

@@ -19,7 +19,7 @@ use Rattle.world_object.specs.declared.parts.ClusterParts.{ClusterParts}
 
 -- what contracts see of the parts
 abbrev pub state_of : ClusterParts → ClusterState
-state_of p = record { script = p.script.value; past = p.world.past; actors = p.actors; claims = p.claims; halt = p.halt }
+state_of p = record { script = p.script.value; past = p.world.past; actors = p.actors; claims = p.claims; halt = p.halt; verdicts = p.verdicts }
 
 abbrev pub opening_of : ClusterParts → Opening
 opening_of p = as_opening (state_of p)

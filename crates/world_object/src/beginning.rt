@@ -11,6 +11,7 @@ ghost use Rattle.world_object.specs.Standing.{ArePartsOf, IsBegun, Stands, openi
 
 use crate::making::child_in;
 use crate::parts::ClusterParts;
+use crate::verdicts::KeptVerdicts;
 use crgc_ids::{ActorId, ActorList, NoMemory, NodeId};
 use history_model::Event;
 use script_actors::ScriptActors;
@@ -27,6 +28,7 @@ impl ClusterParts {
         ensures stands { IfOk result Stands }
         ensures new { IfOk result (λ p. IsNew (opening_of p)) }
         ensures script { IfOk result (λ p. p.script.value ≡ script) }
+        ensures verdicts { IfOk result (λ p. p.verdicts ≡ []) }
     {
         let start = Snapshot::of(&script);
         let mut world = World::new(alloc, script.nodes, 2)?;
@@ -50,6 +52,7 @@ fn parts_of(
     ensures stands { Stands result }
     ensures new { IsNew (opening_of result) }
     ensures script { result.script.value ≡ script.value }
+    ensures verdicts { result.verdicts ≡ [] }
 {
     ClusterParts {
         world,
@@ -58,6 +61,7 @@ fn parts_of(
         seeds,
         claims: [None; 16],
         halt: None,
+        verdicts: KeptVerdicts::new(alloc),
         alloc,
         script,
     }

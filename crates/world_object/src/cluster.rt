@@ -1,5 +1,5 @@
 //! The cluster.
-ghost use Rattle.std.specs.Prelude.{◌≡◌, IfOk};
+ghost use Rattle.std.specs.Prelude.{◌≡◌, [], reverse, IfOk};
 ghost use Rattle.script_reader.specs.Valid.{IsScript};
 ghost use Rattle.run_model.specs.Doing.{cluster_of};
 ghost use Rattle.operation_model.specs.Openings.{IsNew, IsSoundOpening};
@@ -8,6 +8,7 @@ ghost use Rattle.world_object.specs.State.{as_opening};
 
 use crate::parts::ClusterParts;
 use crgc_ids::NoMemory;
+use history_model::Verdict;
 use operation_model::{Halt, Op, Reply};
 use script_reader::Script;
 use std::alloc::Global;
@@ -15,7 +16,8 @@ use std::marker::Model;
 use true_config::World;
 
 /// A cluster of a script, in the middle of its run. Contracts see its script, its history, the behaviour and the names of each
-/// actor, which pass has claimed each node, and whether it has halted. It keeps its allocator.
+/// actor, which pass has claimed each node, whether it has halted, and the verdicts of its sweeps, the last one first. It keeps its
+/// allocator.
 #[derive(Drop)]
 pub struct Cluster {
     parts: ClusterParts,
@@ -39,6 +41,7 @@ impl Cluster {
         requires { IsScript script }
         ensures new { IfOk result (λ c. IsNew (as_opening c)) }
         ensures script { IfOk result (λ c. c.script ≡ script) }
+        ensures verdicts { IfOk result (λ c. c.verdicts ≡ []) }
     {
         let parts = ClusterParts::begin(alloc, script)?;
         Ok(Cluster { parts })
@@ -67,19 +70,21 @@ impl Cluster {
         self.parts.halt
     }
 
-    /// The world, without the rest. Constant time.
-    pub fn into_world(self) -> World
-        ensures past { result.past ≡ self.past }
-        ensures cluster { result.cluster ≡ cluster_of self.script }
+    /// The world, and the verdicts of the sweeps in their order; without the rest. Constant time.
+    pub fn into_parts(self) -> (World, Vec<Verdict>)
+        ensures past { result.0.past ≡ self.past }
+        ensures cluster { result.0.cluster ≡ cluster_of self.script }
+        ensures verdicts { reverse result.1.items ≡ self.verdicts }
     {
-        self.parts.world
+        let Cluster { parts } = self;
+        (parts.world, parts.verdicts.into_vec())
     }
 
     /// Makes an operation, for the pass of this number; where the cluster has halted, or halts now, the answer is why. Each takes
     /// the time of its events; a wake and the question whether all is finished go over the seeds, a refill over the actors before.
     pub(crate) fn step(&mut self, pass: u32, op: Op) -> Reply
-        requires { MayStep (as_opening self.old) pass op }
-        ensures { IsStep (as_opening self.old) pass op result (as_opening self.new) }
+        requires { MayStep self.old pass op }
+        ensures { IsStep self.old pass op result self.new }
     {
         self.parts.step(pass, op)
     }

@@ -1,8 +1,8 @@
 //! What collectors are given, and what they find.
-ghost use Rattle.std.specs.Prelude.{◌≡◌, ◌<◌, length, IfErr, IfOk, None, OnErr};
+ghost use Rattle.std.specs.Prelude.{◌≡◌, ◌<◌, ℕ, length, IfErr, IfOk, None, OnErr};
 ghost use Rattle.operation_model.specs.declared.operations.Op.TheVariants as ops;
 ghost use Rattle.true_config.specs.Promises.{IsFoundBySweep};
-ghost use Rattle.world_object.specs.Answering.{Halts, IsDone, refused_by};
+ghost use Rattle.world_object.specs.Answering.{Halts, IsDone, IsGrantedTo, refused_by};
 ghost use Rattle.world_object.specs.Standing.{Stands};
 ghost use Rattle.history_model.specs.Streams.{stream};
 ghost use Rattle.run_model.specs.Doing.{cluster_of};
@@ -52,21 +52,30 @@ impl ClusterParts {
         write(self.alloc, bulletin)
     }
 
-    /// The actors that the verdict names are stopped.
-    pub(crate) fn sweep(&mut self, verdict: &Verdict) -> Result<Reply, Halt>
+    /// The actors that the verdict names are stopped, and the verdict is kept.
+    pub(crate) fn sweep(&mut self, verdict: Verdict) -> Result<Reply, Halt>
         requires stands { Stands self.old }
-        requires may { refused_by self.old (ops.Sweep verdict.now) ≡ None }
-        requires found { IsFoundBySweep self.old.world verdict.now }
+        requires may { refused_by self.old (ops.Sweep verdict) ≡ None }
+        requires found { IsFoundBySweep self.old.world verdict }
         ensures stands { Stands self.new }
-        ensures ok { IfOk result (IsDone (ops.Sweep verdict.now) self.old self.new) }
+        ensures ok { (pass : ℕ) → IfOk result (IsGrantedTo pass (ops.Sweep verdict) self.old self.new) }
         ensures err { OnErr result (self.new ≡ self.old) }
-        ensures halt { IfErr result (Halts self.old (ops.Sweep verdict.now)) }
+        ensures halt { IfErr result (Halts self.old (ops.Sweep verdict)) }
     {
-        match self.world.sweep(verdict) {
+        if self.verdicts.keep(verdict).is_err() {
+            return Err(Halt::Memory);
+        }
+        match self.world.sweep(self.verdicts.last()) {
             Ok(Applied::Done(_)) => Ok(Reply::Done),
             Ok(Applied::Illegal(_)) => unreachable!(),
-            Ok(Applied::Limit(which)) => Err(Halt::Limit(which)),
-            Err(_) => Err(Halt::Memory),
+            Ok(Applied::Limit(which)) => {
+                self.verdicts.take_back();
+                Err(Halt::Limit(which))
+            }
+            Err(_) => {
+                self.verdicts.take_back();
+                Err(Halt::Memory)
+            }
         }
     }
 }

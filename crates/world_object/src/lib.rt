@@ -17,6 +17,7 @@ mod searching;
 mod shared;
 mod telling;
 mod turning;
+mod verdicts;
 
 pub use cluster::Cluster;
 pub use shared::Shared;

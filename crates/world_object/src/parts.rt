@@ -1,4 +1,5 @@
 //! What a cluster is made of.
+use crate::verdicts::KeptVerdicts;
 use crgc_ids::{ActorList, NodeId};
 use operation_model::Halt;
 use script_actors::ScriptActors;
@@ -9,7 +10,7 @@ use std::snapshot::Snapshot;
 use true_config::World;
 
 /// A cluster of a script: its world, its actors between their turns, how much of the plan is used, the actors that the seeds are,
-/// which pass has claimed each node, and whether it has halted.
+/// which pass has claimed each node, whether it has halted, and the verdicts of its sweeps.
 #[derive(Drop)]
 pub(crate) struct ClusterParts {
     pub(crate) world: World,
@@ -18,6 +19,7 @@ pub(crate) struct ClusterParts {
     pub(crate) seeds: ActorList,
     pub(crate) claims: [Option<u32>; 16],
     pub(crate) halt: Option<Halt>,
+    pub(crate) verdicts: KeptVerdicts,
     pub(crate) alloc: Global,
     pub(crate) script: Snapshot<Script>,
 }

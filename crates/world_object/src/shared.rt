@@ -20,11 +20,11 @@ impl Object for Shared {
 
     ghost fits = { λ start history op pass. MayMake (as_opening start) history op pass };
 
-    ghost stands = { λ start history state. IsStateOf (as_opening start) history (as_opening state) };
+    ghost stands = { λ start history state. IsStateOf start history state };
 
     ghost still_fits = { λ start later history op pass none may. still_may_make (as_opening start) later history op pass none may };
 
-    ghost stands_first = { λ start. state_of_nothing (as_opening start) };
+    ghost stands_first = { λ start. state_of_nothing start };
 
     fn step(state: &mut Cluster, pass: u32, op: Op) -> Reply {
         state.is_sound();

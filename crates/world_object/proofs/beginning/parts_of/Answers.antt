@@ -12,6 +12,7 @@ returns-clause-stands c =
       seeds = c.args.seeds;
       claims = None ∷ None ∷ None ∷ None ∷ None ∷ None ∷ None ∷ None ∷ None ∷ None ∷ None ∷ None ∷ None ∷ None ∷ None ∷ None ∷ [];
       halt = None;
+      verdicts = c.new.result;
       alloc = c.args.alloc;
       script = c.args.script;
     } in
@@ -27,6 +28,7 @@ returns-clause-new c =
       seeds = c.args.seeds;
       claims = None ∷ None ∷ None ∷ None ∷ None ∷ None ∷ None ∷ None ∷ None ∷ None ∷ None ∷ None ∷ None ∷ None ∷ None ∷ None ∷ [];
       halt = None;
+      verdicts = c.new.result;
       alloc = c.args.alloc;
       script = c.args.script;
     } in

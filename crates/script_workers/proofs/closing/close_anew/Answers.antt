@@ -2,7 +2,7 @@ use Rattle.std.proofs.Common.{sym, subst}
 use Rattle.history_model.specs.Story.{Story}
 use Rattle.script_workers.specs.Closed.{CarryFew}
 use Rattle.script_workers.proofs.Closes.{carry-few}
-use Rattle.script_workers.proofs.closing.close_run.Goals as goal
+use Rattle.script_workers.proofs.closing.close_anew.Goals as goal
 
 pub course_of-requires-clause-few : goal.course_of-requires-clause-few
 course_of-requires-clause-few c =
