@@ -85,7 +85,7 @@ module _ {S P R : Type 0} (fits : S → List (Entry P R) → P → ℕ → Type 
         joined = k.joined + 1;
         next = k.next;
         gathered = w.own ++ k.gathered;
-        bells = k.bells;
+        others = k.others;
         words = k.words;
         few = k.few;
         proper = k.proper;

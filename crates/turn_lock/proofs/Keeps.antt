@@ -1,11 +1,12 @@
 -- Each step of a pass keeps the rule.
-use Rattle.std.proofs.Common.{◌≡◌, ◌≢◌, ◌⊎◌, ℕ, zero, suc, ◌+◌, ◌%◌, ◌^◌, ◌<◌, ◌≤◌, List, [], ◌∷◌, ◌++◌, length, map, set, get_or, Some, refl, sym, ap, ◌∙◌, subst, inl, inr, ⊎_elim, arith, append_assoc, le_refl}
+use Rattle.std.proofs.Common.{◌≡◌, ◌≢◌, ◌⊎◌, ℕ, zero, suc, ◌+◌, ◌%◌, ◌^◌, ◌<◌, ◌≤◌, List, [], ◌∷◌, ◌++◌, ◌==◌, length, map, set, get_or, Some, refl, sym, ap, ◌∙◌, subst, inl, inr, ⊎_elim, arith, append_assoc, le_refl}
 use Rattle.std.proofs.Math.Nat.{mod-add-mod, mod-eq_of_lt}
 use mathlib.Core.Option.{Option, none, some}
+use prog.Atomic.{either}
 use mathlib.Core.Logic.{dite}
 use native.Mathlib.Decide.{ℕ_discrete}
 use lib.ListN.{get_elem?}
-use Rattle.atomic_table.specs.Table.{State, step, keeps, takes, gives, opening, Allows, Splits}
+use Rattle.atomic_table.specs.Table.{State, Step, step, keeps, takes, gives, opening, Allows, Splits}
 use Rattle.atomic_table.proofs.Lists.{set_else, set_here, set_again, at_longer, one_turn}
 use lib.Seq.{set-get_or}
 use mathlib.Core.List.{append-nil}
@@ -16,16 +17,16 @@ use Rattle.turn_lock.specs.declared.rule.View.{View}
 use Rattle.turn_lock.specs.History.{entry, calls_of, Begins, IsProper}
 use Rattle.turn_lock.specs.Views.{numbered, kept, given, ticketed, turned, called}
 use Rattle.turn_lock.specs.Rule.{newcomer, total, Lives, IsAway, Alive, Queued, Leads, IsHome, Kept}
-use Rattle.turn_lock.specs.Plays.{Sat, draws_number, draws_ticket, hands_on, rings, looks}
+use Rattle.turn_lock.specs.Plays.{Sat, draws_number, draws_ticket, hands_on, passes_door, looks}
 use Rattle.turn_lock.proofs.Calls.{none_later, seen_has_none, calls_of_own, calls_of_other}
 use Rattle.turn_lock.proofs.Rosters.{only, one_at, set_at, total_set, total_snoc, total_le, each_set, each_snoc, Apart_set, Apart_snoc}
 
 -- a word behind the first three changes none of these
-behind_three : (word new x y z : ℕ) (bells : List ℕ) → 2 < word → (after : List ℕ) × (set (x ∷ y ∷ z ∷ bells) word new ≡ x ∷ y ∷ z ∷ after)
-behind_three zero new x y z bells later = absurd (omega arith)
-behind_three (suc zero) new x y z bells later = absurd (omega arith)
-behind_three (suc (suc zero)) new x y z bells later = absurd (omega arith)
-behind_three (suc (suc (suc i))) new x y z bells later = (set bells i new, refl)
+behind_three : (word new x y z : ℕ) (others : List ℕ) → 2 < word → (after : List ℕ) × (set (x ∷ y ∷ z ∷ others) word new ≡ x ∷ y ∷ z ∷ after)
+behind_three zero new x y z others later = absurd (omega arith)
+behind_three (suc zero) new x y z others later = absurd (omega arith)
+behind_three (suc (suc zero)) new x y z others later = absurd (omega arith)
+behind_three (suc (suc (suc i))) new x y z others later = (set others i new, refl)
 
 -- a flag is not both down and up
 pub zero_one : (flag : ℕ) → flag ≡ 0 → flag ≡ 1 → ⊥
@@ -68,15 +69,15 @@ module _ {S P R : Type 0} where
 
 module _ {S P R : Type 0} (fits : S → List (Entry P R) → P → ℕ → Type 0) (stands : S → List (Entry P R) → S → Type 0) (key : S) where
   -- a new lock keeps the rule
-  pub opens : (words bells : List ℕ) (rooms : List (Room S P R)) (room : Room S P R) → words ≡ 1 ∷ 0 ∷ 0 ∷ bells → rooms ≡ room ∷ [] → stands key [] room.state → Kept fits stands key (opening words rooms (newcomer key))
-  opens words bells rooms room are_words is_room stood = record {
+  pub opens : (words others : List ℕ) (rooms : List (Room S P R)) (room : Room S P R) → words ≡ 1 ∷ 0 ∷ 0 ∷ others → rooms ≡ room ∷ [] → stands key [] room.state → Kept fits stands key (opening words rooms (newcomer key))
+  opens words others rooms room are_words is_room stood = record {
     log = [];
     given = 0;
     drawn = 0;
     joined = 0;
     next = 0;
     gathered = [];
-    bells = bells;
+    others = others;
     words = are_words;
     few = omega arith;
     proper = tt;
@@ -97,7 +98,7 @@ module _ {S P R : Type 0} (fits : S → List (Entry P R) → P → ℕ → Type 
   -- a step that makes no call: one view changes, and the rest of the rule stays
   quiet : (s : State (Room S P R) (View S P R)) (k : Kept fits stands key s) (id : ℕ) (v : View S P R) → get_elem? s.views id ≡ some v → v.live ≡ 1
       → (book drawn waits turn ticket : ℕ) (seen : List (Entry P R)) (next : ℕ) (words : List ℕ) (homes : List (Option (Room S P R)))
-      → words ≡ (k.given + book + 1) ∷ (next % 2 ^ 64) ∷ (length k.log % 2 ^ 64) ∷ k.bells → k.given + book < 2 ^ 32 → (v.number ≡ 0 → drawn ≡ book) → (v.number ≢ 0 → book ≡ k.drawn)
+      → words ≡ (k.given + book + 1) ∷ (next % 2 ^ 64) ∷ (length k.log % 2 ^ 64) ∷ k.others → k.given + book < 2 ^ 32 → (v.number ≡ 0 → drawn ≡ book) → (v.number ≢ 0 → book ≡ k.drawn)
       → waits + k.next ≡ next + v.waits → k.next ≤ next → ((t : ℕ) → waits ≡ 1 → t < k.next → (v.waits ≡ 1 → t ≢ v.ticket) → t ≢ ticket) → (seen ≡ v.seen) ⊎ (seen ≡ k.log)
       → Queued k.log next (record v { drawn = drawn; waits = waits; turn = turn; ticket = ticket; seen = seen })
       → IsHome fits stands key k.log homes ⊎ IsAway (set s.views id (record v { drawn = drawn; waits = waits; turn = turn; ticket = ticket; seen = seen }))
@@ -114,7 +115,7 @@ module _ {S P R : Type 0} (fits : S → List (Entry P R) → P → ℕ → Type 
         joined = k.joined;
         next = next;
         gathered = k.gathered;
-        bells = k.bells;
+        others = k.others;
         words = is_words;
         few = few;
         proper = k.proper;
@@ -164,7 +165,7 @@ module _ {S P R : Type 0} (fits : S → List (Entry P R) → P → ℕ → Type 
         keeps,
         tt,
         quiet s k id v at live 1 1 v.waits v.turn v.ticket v.seen k.next (set s.words 0 ((get_or s.words 0 0 + 1) % 2 ^ 64)) s.homes
-            (ap (λ (ws : List ℕ). set ws 0 ((get_or s.words 0 0 + 1) % 2 ^ 64)) k.words ∙ ap (λ (n : ℕ). n ∷ (k.next % 2 ^ 64) ∷ (length k.log % 2 ^ 64) ∷ k.bells) new)
+            (ap (λ (ws : List ℕ). set ws 0 ((get_or s.words 0 0 + 1) % 2 ^ 64)) k.words ∙ ap (λ (n : ℕ). n ∷ (k.next % 2 ^ 64) ∷ (length k.log % 2 ^ 64) ∷ k.others) new)
             (omega arith) (λ _. refl) (λ other. absurd (other first)) (omega arith) (le_refl k.next) (λ t w _ _. absurd (omega arith)) (inl refl)
             record { lives = q.lives; waits = q.waits; turn = q.turn; ticket = q.ticket; served = q.served }
             (slot_stays s k id v (numbered v) at no_turn),
@@ -183,7 +184,7 @@ module _ {S P R : Type 0} (fits : S → List (Entry P R) → P → ℕ → Type 
         keeps,
         tt,
         quiet s k id v at live k.drawn v.drawn 1 v.turn k.next v.seen (k.next + 1) (set s.words 1 ((get_or s.words 1 0 + 1) % 2 ^ 64)) s.homes
-            (ap (λ (ws : List ℕ). set ws 1 ((get_or s.words 1 0 + 1) % 2 ^ 64)) k.words ∙ ap (λ (n : ℕ). (k.given + k.drawn + 1) ∷ n ∷ (length k.log % 2 ^ 64) ∷ k.bells) new)
+            (ap (λ (ws : List ℕ). set ws 1 ((get_or s.words 1 0 + 1) % 2 ^ 64)) k.words ∙ ap (λ (n : ℕ). (k.given + k.drawn + 1) ∷ n ∷ (length k.log % 2 ^ 64) ∷ k.others) new)
             k.few (λ first. (k.leads id v at live first).has_drawn) (λ _. refl) (omega arith) (omega arith) (λ t _ before _ same. omega arith) (inl refl)
             record { lives = q.lives; waits = omega arith; turn = omega arith; ticket = λ _. (omega arith, omega arith); served = λ t. absurd (omega arith) }
             (slot_stays s k id v (ticketed v k.next) at no_turn),
@@ -195,17 +196,17 @@ module _ {S P R : Type 0} (fits : S → List (Entry P R) → P → ℕ → Type 
       → Kept fits stands key record { words = set s.words i (get_or s.words i 0); homes = s.homes; views = set s.views id v }
   unchanged s k id i v at = subst (Kept fits stands key) (λ j. record { words = sym (set-get_or s.words i 0) j; homes = s.homes; views = sym (set_again s.views id v at) j }) k
 
-  -- a bell is set, which changes nothing else
-  rung : (s : State (Room S P R) (View S P R)) (k : Kept fits stands key s) (words bells : List ℕ) → words ≡ (k.given + k.drawn + 1) ∷ (k.next % 2 ^ 64) ∷ (length k.log % 2 ^ 64) ∷ bells
+  -- a word behind the first three has any value
+  stands_behind : (s : State (Room S P R) (View S P R)) (k : Kept fits stands key s) (words others : List ℕ) → words ≡ (k.given + k.drawn + 1) ∷ (k.next % 2 ^ 64) ∷ (length k.log % 2 ^ 64) ∷ others
       → Kept fits stands key record { words = words; homes = s.homes; views = s.views }
-  rung s k words bells are_words = record {
+  stands_behind s k words others are_words = record {
     log = k.log;
     given = k.given;
     drawn = k.drawn;
     joined = k.joined;
     next = k.next;
     gathered = k.gathered;
-    bells = bells;
+    others = others;
     words = are_words;
     few = k.few;
     proper = k.proper;
@@ -220,16 +221,23 @@ module _ {S P R : Type 0} (fits : S → List (Entry P R) → P → ℕ → Type 
     slot = k.slot;
   }
 
-  pub rings_a_bell : (slots id word new : ℕ) (me : Sat S P R) → 2 < word → Allows (Kept fits stands key) slots id me word (λ _. new) (rings (step slots word new 0 none) me)
-  rings_a_bell slots id word new me is_bell s k _ at small =
-      let b = behind_three word new _ _ _ k.bells is_bell in (
+  changes_the_door : (slots id word : ℕ) (change : ℕ → ℕ) (st : Step (Room S P R)) (me : Sat S P R) → 2 < word → Allows (Kept fits stands key) slots id me word change (passes_door st me)
+  changes_the_door slots id word change st me behind s k _ at small =
+      let new = change (get_or s.words word 0) in
+      let b = behind_three word new _ _ _ k.others behind in (
         me.0,
         keeps,
         tt,
         subst (λ (views : List (View S P R)). Kept fits stands key record { words = set s.words word new; homes = s.homes; views = views }) (sym (set_again s.views id me.0 at))
-            (rung s k (set s.words word new) b.0 (ap (λ (ws : List ℕ). set ws word new) k.words ∙ b.1)),
+            (stands_behind s k (set s.words word new) b.0 (ap (λ (ws : List ℕ). set ws word new) k.words ∙ b.1)),
         refl,
       )
+
+  pub swaps_the_door : (slots id word new : ℕ) (me : Sat S P R) → 2 < word → Allows (Kept fits stands key) slots id me word (λ _. new) (passes_door (step slots word new 0 none) me)
+  swaps_the_door slots id word new me = changes_the_door slots id word (λ _. new) (step slots word new 0 none) me
+
+  pub tries_the_door : (slots id word old new : ℕ) (me : Sat S P R) → 2 < word → Allows (Kept fits stands key) slots id me word (λ n. either (n == old) new n) (passes_door (step slots word old new none) me)
+  tries_the_door slots id word old new me = changes_the_door slots id word (λ n. either (n == old) new n) (step slots word old new none) me
 
   -- the ticket served is the number of calls, where the two words are equal
   served : (s : State (Room S P R) (View S P R)) (k : Kept fits stands key s) (id : ℕ) (v : View S P R) → get_elem? s.views id ≡ some v → v.waits ≡ 1 → length k.log % 2 ^ 64 ≡ v.ticket % 2 ^ 64 → length k.log ≡ v.ticket
@@ -324,8 +332,8 @@ module _ {S P R : Type 0} (fits : S → List (Entry P R) → P → ℕ → Type 
         joined = k.joined;
         next = k.next;
         gathered = k.gathered;
-        bells = k.bells;
-        words = ap (λ (ws : List ℕ). set ws 2 ((get_or s.words 2 0 + 1) % 2 ^ 64)) k.words ∙ ap (λ (n : ℕ). (k.given + k.drawn + 1) ∷ (k.next % 2 ^ 64) ∷ n ∷ k.bells) new;
+        others = k.others;
+        words = ap (λ (ws : List ℕ). set ws 2 ((get_or s.words 2 0 + 1) % 2 ^ 64)) k.words ∙ ap (λ (n : ℕ). (k.given + k.drawn + 1) ∷ (k.next % 2 ^ 64) ∷ n ∷ k.others) new;
         few = k.few;
         proper = (
           subst (λ (l : List (Entry P R)). fits key l op v.number) whole fitted,
@@ -434,8 +442,8 @@ module _ {S P R : Type 0} (fits : S → List (Entry P R) → P → ℕ → Type 
         joined = k.joined;
         next = k.next;
         gathered = k.gathered;
-        bells = k.bells;
-        words = k.words ∙ ap (λ (x : ℕ). x ∷ (k.next % 2 ^ 64) ∷ (length k.log % 2 ^ 64) ∷ k.bells) (omega arith);
+        others = k.others;
+        words = k.words ∙ ap (λ (x : ℕ). x ∷ (k.next % 2 ^ 64) ∷ (length k.log % 2 ^ 64) ∷ k.others) (omega arith);
         few = omega arith;
         proper = k.proper;
         none_more = λ pass more. k.none_more pass (omega arith);

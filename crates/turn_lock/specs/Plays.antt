@@ -28,8 +28,8 @@ module _ {S P R : Type 0} where
       → n ≡ (called m.0 last.op.value last.reply.value, [])
 
   -- the seat is as before
-  abbrev pub rings : Told S P R
-  rings st m r n = n ≡ m
+  abbrev pub passes_door : Told S P R
+  passes_door st m r n = n ≡ m
 
   -- of the two histories of the last join, one begins the other
   abbrev pub compares : Told S P R

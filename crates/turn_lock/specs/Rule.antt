@@ -1,6 +1,6 @@
 -- The rule of a lock, about its words, its slot and all views.
 -- Word 0 is one more than the passes split and drawn, word 1 the next ticket, and word 2 the ticket that is served, which is the number of calls.
--- The words after these are bells, which may have any value.
+-- The words after these, of which one is the door, may have any value.
 use Rattle.std.specs.Prelude.{◌≡◌, ◌⊎◌, ℕ, ◌+◌, ◌%◌, ◌^◌, ◌<◌, ◌≤◌, List, [], ◌∷◌, length, Some}
 use mathlib.Core.Option.{Option, some}
 use lib.ListN.{get_elem?}
@@ -72,8 +72,8 @@ module _ {S P R : Type 0} (fits : S → List (Entry P R) → P → ℕ → Type 
     pub joined : ℕ
     pub next : ℕ
     pub gathered : List (Entry P R)
-    pub bells : List ℕ
-    pub words : s.words ≡ (given + drawn + 1) ∷ (next % 2 ^ 64) ∷ (length log % 2 ^ 64) ∷ bells
+    pub others : List ℕ
+    pub words : s.words ≡ (given + drawn + 1) ∷ (next % 2 ^ 64) ∷ (length log % 2 ^ 64) ∷ others
     pub few : given + drawn < 2 ^ 32
     pub proper : IsProper fits stands key log
     pub none_more : (pass : ℕ) → given < pass → (calls_of pass log ≡ []) × (calls_of pass gathered ≡ [])

@@ -11,7 +11,8 @@ ghost use Rattle.turn_lock.specs.declared.object.Entry.{Entry};
 use crate::object::Object;
 use crate::pass::Pass;
 use crate::rule::{
-    Compare, Give, HandOn, Last, Look, Number, OneHistory, Ring, Room, SeatOf, TakeIn, Ticket, View,
+    AtDoor, Compare, Give, HandOn, Last, Look, Number, OneHistory, Room, SeatOf, TakeIn, Ticket,
+    View,
 };
 use atomic_table::{Refused, Table};
 use crgc_ids::NoMemory;
@@ -20,24 +21,30 @@ use std::hint::spin_loop;
 use std::marker::Model;
 use std::snapshot::Snapshot;
 use std::sync::Wait;
+use std::time::Duration;
 
-// The words of the table: three, and then the bells, of which each ticket has one to sleep on.
+// The words of the table: three that count, and far enough from them to be in another cache line, the door.
 const PASSES: usize = 0;
 
 const TICKETS: usize = 1;
 
 const SERVING: usize = 2;
 
-const BELLS: usize = 64;
+const DOOR: usize = 16;
 
-const WORDS: usize = SERVING + 1 + BELLS;
+const WORDS: usize = DOOR + 1;
 
 const SLOT: usize = 0;
 
-// How many places behind a pass is at most that looks before it sleeps, and how often it looks.
-const NEAR: u64 = 4;
+// What the word of the door says: nobody is inside, or somebody is.
+const OPEN: u64 = 0;
 
+const SHUT: u64 = 1;
+
+// How often a pass looks at a door that is shut, and how many microseconds it stays away from it after that.
 const LOOKS: u32 = 1000;
+
+const PAUSE: u64 = 50;
 
 /// A lock whose passes keep a history. Contracts see which lock it is, as its passes do, and with what state it was made.
 #[derive(Drop)]
@@ -113,10 +120,10 @@ impl<O: Object> TurnLock<O> {
     /// Makes one call of an operation that fits after what the pass has seen, and answers what the object replies.
     /// What the pass has seen then begins with what it had seen, goes on with calls of others, and ends with this one.
     ///
-    /// Calls are served in the order of the tickets that they draw. A pass at most `NEAR` places behind looks for its turn,
-    /// up to `LOOKS` times in a call; it sleeps after that, and so does a pass that is further behind, at once. Each call
-    /// costs two atomic additions and two or three looks. It wakes the pass that is next, if that one sleeps or is about
-    /// to, and no other but where more than `BELLS` passes wait: a sleep and a wake cost a swap and a system call each.
+    /// Calls are served in the order of the tickets that they draw. A pass draws its ticket once it is through the door, which
+    /// lets one in at a time, and whoever comes first: so a pass that makes many calls makes them one after another. One that
+    /// finds the door shut looks up to `LOOKS` times, stays away for `PAUSE` microseconds, and looks again. A call where nobody
+    /// else is costs four atomic steps and two looks; nobody wakes anybody.
     pub fn call<R: Wait>(&self, rt: &R, pass: &mut Pass<O>, op: O::Op) -> O::Reply
         requires lock { pass.old.origin ≡ self.now.origin }
         requires fits { O.fits self.now.start pass.old.seen op pass.old.number }
@@ -165,8 +172,22 @@ impl<O: Object> TurnLock<O> {
         state_of(room)
     }
 
-    // From the ticket drawn to the turn handed on.
+    // One call, behind the door.
     fn serve<R: Wait>(&self, rt: &R, seat: &mut SeatOf<O>, pass: u32, op: O::Op) -> O::Reply
+        requires lock { (seat.old.table_id ≡ self.now.origin.table) × (seat.old.me.0.start ≡ self.now.origin.start) }
+        requires idle { IsIdle pass seat.old.me }
+        requires fits { O.fits self.now.start seat.old.me.0.seen op pass }
+        ensures lock { seat.new.table_id ≡ seat.old.table_id }
+        ensures served { Served O.fits O.stands self.now.start pass op result seat.old.me.0 seat.new.me }
+    {
+        self.shut_door(rt, seat);
+        let reply = self.take_turn(rt, seat, pass, op);
+        self.open_door(seat);
+        reply
+    }
+
+    // From the ticket drawn to the turn handed on.
+    fn take_turn<R: Wait>(&self, rt: &R, seat: &mut SeatOf<O>, pass: u32, op: O::Op) -> O::Reply
         requires lock { (seat.old.table_id ≡ self.now.origin.table) × (seat.old.me.0.start ≡ self.now.origin.start) }
         requires idle { IsIdle pass seat.old.me }
         requires fits { O.fits self.now.start seat.old.me.0.seen op pass }
@@ -178,14 +199,51 @@ impl<O: Object> TurnLock<O> {
         self.wait(rt, seat, ticket);
         let reply = self.make(seat, pass, op);
         shared.fetch_add::<HandOn>(seat, SERVING, 1);
-        self.wake_next(seat, ticket);
         reply
     }
 
-    // Until the ticket is served. A pass that is a few places behind looks again and again for a while. Else it sets its bell to its own
-    // sign, looks once more, and sleeps while the bell has that sign: what was handed on before the look, it sees, and whoever hands on
-    // later finds a bell that is not 0. Passes with one bell have different signs, since one whose bell was set back already could sleep
-    // on the sign of another.
+    // Until the pass has shut the door behind it. No clause rests on the door: tickets say whose turn it is, and the door keeps
+    // those away whose turn it is not.
+    fn shut_door<R: Wait>(&self, rt: &R, seat: &mut SeatOf<O>)
+        requires lock { seat.old.table_id ≡ self.now.origin.table }
+        ensures seat { (seat.new.table_id ≡ seat.old.table_id) × (seat.new.me ≡ seat.old.me) }
+    {
+        for _ in rt.forever() {
+            if self.comes_in(seat) {
+                return;
+            }
+            let pause = Duration::from_micros(PAUSE);
+            self.table.shared.park_timeout(rt, DOOR, SHUT as u32, pause);
+        }
+        unreachable!()
+    }
+
+    // Looks a while, and shuts the door where it finds it open; whether it did.
+    fn comes_in(&self, seat: &mut SeatOf<O>) -> bool
+        requires lock { seat.old.table_id ≡ self.now.origin.table }
+        ensures seat { (seat.new.table_id ≡ seat.old.table_id) × (seat.new.me ≡ seat.old.me) }
+    {
+        let shared = &self.table.shared;
+        for _ in 0..LOOKS {
+            if shared.peek(DOOR) == OPEN
+                && shared.compare_exchange::<AtDoor>(seat, DOOR, OPEN, SHUT) == OPEN
+            {
+                return true;
+            }
+            spin_loop();
+        }
+        false
+    }
+
+    // Whoever looks next finds the door open.
+    fn open_door(&self, seat: &mut SeatOf<O>)
+        requires lock { seat.old.table_id ≡ self.now.origin.table }
+        ensures seat { (seat.new.table_id ≡ seat.old.table_id) × (seat.new.me ≡ seat.old.me) }
+    {
+        self.table.shared.swap::<AtDoor>(seat, DOOR, OPEN);
+    }
+
+    // Until the ticket is served, which is at the first look where the door let nobody else in.
     fn wait<R: Wait>(&self, rt: &R, seat: &mut SeatOf<O>, ticket: u64)
         requires lock { seat.old.table_id ≡ self.now.origin.table }
         requires waits { IsWaiting ticket seat.old.me }
@@ -193,25 +251,11 @@ impl<O: Object> TurnLock<O> {
         ensures took { Took O.fits O.stands seat.old.me seat.new.me }
     {
         let shared = &self.table.shared;
-        let bell = bell_of(ticket);
-        let sign = (ticket % (1 << 32)) as u32 | 1;
-        let mut looks = 0;
-        let mut is_set = false;
         for _ in rt.forever() {
-            let serving = shared.load::<Look<O>>(seat, SERVING);
-            if serving == ticket {
+            if shared.load::<Look<O>>(seat, SERVING) == ticket {
                 return;
             }
-            if is_set {
-                shared.park(rt, bell, sign);
-                is_set = false;
-            } else if looks < LOOKS && ticket.wrapping_sub(serving) <= NEAR {
-                looks += 1;
-                spin_loop();
-            } else {
-                shared.swap::<Ring>(seat, bell, sign as u64);
-                is_set = true;
-            }
+            spin_loop();
         }
         unreachable!()
     }
@@ -232,27 +276,6 @@ impl<O: Object> TurnLock<O> {
         });
         reply
     }
-
-    // Wakes the pass with the next ticket, where its bell is set. One that draws that ticket or sets the bell later sees that it is served.
-    fn wake_next(&self, seat: &mut SeatOf<O>, ticket: u64)
-        requires lock { seat.old.table_id ≡ self.now.origin.table }
-        ensures seat { (seat.new.table_id ≡ seat.old.table_id) × (seat.new.me ≡ seat.old.me) }
-    {
-        let shared = &self.table.shared;
-        let next = ticket.wrapping_add(1);
-        let bell = bell_of(next);
-        if shared.peek(TICKETS) != next && shared.peek(bell) != 0 {
-            shared.swap::<Ring>(seat, bell, 0);
-            shared.wake_all(bell);
-        }
-    }
-}
-
-// The word that a pass with this ticket sleeps on.
-fn bell_of(ticket: u64) -> usize
-    ensures { (SERVING < result) × (result < WORDS) }
-{
-    SERVING + 1 + (ticket % BELLS as u64) as usize
 }
 
 fn state_of<S, P, R>(room: Room<S, P, R>) -> S

@@ -127,11 +127,11 @@ impl<S, P, R> Play<Room<S, P, R>, View<S, P, R>> for HandOn {
     ghost then = { hands_on };
 }
 
-// A bell is set, or set back.
-pub struct Ring;
+// The door is shut or opened.
+pub struct AtDoor;
 
-impl<S, P, R> Play<Room<S, P, R>, View<S, P, R>> for Ring {
-    ghost use Rattle.turn_lock.specs.Plays.{rings};
+impl<S, P, R> Play<Room<S, P, R>, View<S, P, R>> for AtDoor {
+    ghost use Rattle.turn_lock.specs.Plays.{passes_door};
 
-    ghost then = { rings };
+    ghost then = { passes_door };
 }
