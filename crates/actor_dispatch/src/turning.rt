@@ -19,6 +19,7 @@ use operation_model::{Halt, Op};
 use std::alloc::Global;
 use std::sync::Wait;
 use turn_lock::{Pass, TurnLock};
+use work_steps::work_for;
 use world_object::Shared;
 
 /// A turn that has begun is run: its acts, its rest, and the flush after it; or its acts up to where its node is down. The nodes
@@ -229,15 +230,4 @@ fn noted(nodes: NodeSet, act: &Act) -> NodeSet {
         Act::Send { to, .. } => nodes.with(to.node()),
         _ => nodes,
     }
-}
-
-// So many steps of a loop; the answer is how many.
-fn work_for(steps: u32) -> u32
-    ensures { result ≡ steps }
-{
-    let mut done = 0;
-    for _ in 0..steps {
-        done += 1;
-    }
-    done
 }

@@ -10,6 +10,7 @@ ghost use Rattle.script_player.specs.Standing.{DoesNext};
 use behaviour_lang::{Act, Code, Step, Turn};
 use crgc_ids::NoMemory;
 use script_actors::next_step;
+use work_steps::work_for;
 
 /// The next act of a turn, and before it the work that comes first; None at the turn's end.
 pub(crate) fn next_act(turn: &mut Turn, code: &Code) -> Result<Option<Act>, NoMemory>
@@ -23,20 +24,9 @@ pub(crate) fn next_act(turn: &mut Turn, code: &Code) -> Result<Option<Act>, NoMe
         match next_step(turn, code)? {
             Step::Act(act) => return Ok(Some(act)),
             Step::Work(steps) => {
-                work(steps);
+                work_for(steps);
             }
             Step::End => return Ok(None),
         }
     }
-}
-
-/// So many steps of a loop; the answer is how many.
-fn work(steps: u32) -> u32
-    ensures { result ≡ steps }
-{
-    let mut done = 0;
-    for _ in 0..steps {
-        done += 1;
-    }
-    done
 }

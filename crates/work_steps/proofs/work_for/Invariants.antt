@@ -1,5 +1,5 @@
 use Rattle.std.proofs.Common.{◌≡◌}
-use Rattle.actor_dispatch.proofs.turning.work_for.Given as goal
+use Rattle.work_steps.proofs.work_for.Given as goal
 
 abbrev pub invariant-loop : goal.invariant-loop
 invariant-loop l = l.done ≡ l.counter
