@@ -11,10 +11,35 @@ ghost use Rattle.graph_wire.specs.Marks.{actors_of, GivesTable, IsFresh, Marks};
 use crate::fault::{ReadFault, fault};
 use crate::table::{TableActor, mark};
 use crgc_bytes::Cursor;
-use crgc_ids::{ActorCount, ActorCounts, ActorId, NodeId, PairCount, PairCounts};
+use crgc_ids::{
+    ActorCount, ActorCounts, ActorId, NoMemory, NodeId, PairCount, PairCounts, RisingList, Row,
+};
 use history_model::{StateRow, StateRows};
 use std::alloc::Global;
 use wire_grammar::WireKind;
+
+// For how many rows there is room at first, at most: a count that is read may be too high.
+const MOST_AT_FIRST: u32 = 1024;
+
+/// An empty vector with room for so many rows, or for some of them.
+fn with_room<T>(alloc: Global, count: u32) -> Result<Vec<T>, NoMemory>
+    ensures { IfOk result (λ v. v.items ≡ []) }
+{
+    match Vec::with_capacity(alloc, count.min(MOST_AT_FIRST) as usize) {
+        Ok(rows) => Ok(rows),
+        Err(_) => Err(NoMemory),
+    }
+}
+
+/// A list of no rows with room for so many, or for some of them.
+fn no_rows<T: Row>(alloc: Global, count: u32) -> Result<RisingList<T>, NoMemory>
+    ensures { IfOk result (λ l. l ≡ []) }
+{
+    match with_room(alloc, count) {
+        Ok(rows) => Ok(RisingList::from_vec(rows)),
+        Err(_) => Err(NoMemory),
+    }
+}
 
 pub fn u8_at(cursor: &mut Cursor<'_>) -> Result<u8, ReadFault>
     ensures { Gives cursor.new result (number_at 1 cursor.old) }
@@ -121,7 +146,7 @@ fn table_rows(
     ensures gives { GivesTable cursor.new result (rows_at (λ a. a) table_row count None cursor.old) }
     ensures fresh { IfOk result (λ t. IsFresh t.items) }
 {
-    let mut table = Vec::new(alloc);
+    let mut table = with_room(alloc, count)?;
     let mut last = None;
     for i in 0..count {
         let actor = table_row(cursor, last)?;
@@ -312,7 +337,7 @@ fn state_rows(
     ensures gives { Gives cursor.new result (rows_at (λ r. r.actor) (state_row wide (actors_of table.old)) count None cursor.old) }
     ensures marks { IfOk result (λ rows. Marks (state_names rows) table.old table.new) }
 {
-    let mut rows = StateRows::new(alloc);
+    let mut rows = no_rows(alloc, count)?;
     let mut last = None;
     for i in 0..count {
         let row = state_row(cursor, wide, table, last)?;
@@ -348,7 +373,7 @@ fn count_rows(
     ensures gives { Gives cursor.new result (rows_at (λ r. r.actor) (count_row wide (actors_of table.old)) count None cursor.old) }
     ensures marks { IfOk result (λ rows. Marks (count_names rows) table.old table.new) }
 {
-    let mut rows = ActorCounts::new(alloc);
+    let mut rows = no_rows(alloc, count)?;
     let mut last = None;
     for i in 0..count {
         let row = count_row(cursor, wide, table, last)?;
@@ -384,7 +409,7 @@ fn pair_rows(
     ensures gives { Gives cursor.new result (rows_at (λ r. (r.owner, r.target)) (pair_row wide (actors_of table.old)) count None cursor.old) }
     ensures marks { IfOk result (λ rows. Marks (pair_names rows) table.old table.new) }
 {
-    let mut rows = PairCounts::new(alloc);
+    let mut rows = no_rows(alloc, count)?;
     let mut last = None;
     for i in 0..count {
         let row = pair_row(cursor, wide, table, last)?;

@@ -1,5 +1,5 @@
 //! Bulletins to bytes.
-ghost use Rattle.std.specs.Prelude.{◌≡◌, ◌<◌, ◌≤◌, ◌^◌, ◌++◌, ◌↔◌, length, slice_get, OnOk, IfOk, IsTrue};
+ghost use Rattle.std.specs.Prelude.{◌≡◌, ◌<◌, ◌≤◌, ◌^◌, ◌++◌, ◌↔◌, [], length, slice_get, OnOk, IfOk, IsTrue};
 ghost use Rattle.byteorder.specs.Endian.{big_bytes};
 ghost use Rattle.crgc_ids.specs.Actor.{IsActorBelow};
 ghost use Rattle.crgc_ids.specs.Rising.{IsRising};
@@ -271,6 +271,40 @@ fn put_window(out: &mut Vec<u8>, wide: bool, table: &[ActorId], w: &Window) -> R
     put_pairs(out, wide, table, w.carried.as_slice())
 }
 
+// What a header, an actor of the table and a row take at most, in bytes.
+const HEAD: usize = 32;
+
+const ACTOR: usize = 5;
+
+const ROW: usize = 12;
+
+/// An empty text with room for a bulletin, as a rule.
+fn empty_text(alloc: Global, table: &[ActorId], b: &Bulletin) -> Result<Vec<u8>, NoMemory>
+    ensures { IfOk result (λ v. v.items ≡ []) }
+{
+    let actors = table.len().saturating_mul(ACTOR);
+    let rows = row_count(b).saturating_mul(ROW);
+    match Vec::with_capacity(alloc, HEAD.saturating_add(actors).saturating_add(rows)) {
+        Ok(text) => Ok(text),
+        Err(_) => Err(NoMemory),
+    }
+}
+
+fn row_count(b: &Bulletin) -> usize {
+    match b {
+        Bulletin::Delta(d) => d
+            .states
+            .len()
+            .saturating_add(d.sent.len())
+            .saturating_add(d.created.len())
+            .saturating_add(d.released.len()),
+        Bulletin::Window(w) | Bulletin::Final(w) => w
+            .messages
+            .len()
+            .saturating_add(w.carried.len()),
+    }
+}
+
 /// The one spelling of the bulletin, in the wide form where it names more than 65,535 actors. Time in proportion to
 /// n log n for n names at most, and to n where each section's names rise and leave out few of the table's actors.
 #[tactic(auto, unfolding(wire_grammar::specs::Spelling::spelled))]
@@ -280,7 +314,7 @@ pub fn write(alloc: Global, b: &Bulletin) -> Result<Octets, NoMemory>
 {
     let table = table(alloc, b)?;
     let wide = table.len() > 65_535;
-    let mut out = Vec::new(alloc);
+    let mut out = empty_text(alloc, &table, b)?;
     match b {
         Bulletin::Delta(d) => {
             put_head(&mut out, wide, 1)?;

@@ -50,8 +50,8 @@ impl KeptMarks {
         }
     }
 
-    /// There is room for so many places at least. All else is as before, also after `NoMemory`. Linear time in the number of
-    /// places.
+    /// There is room for so many places at least. All else is as before, also after `NoMemory`. Amortized constant time for each
+    /// place more than before.
     pub fn reserve(&mut self, places: u32) -> Result<(), NoMemory>
         ensures room { OnOk result (places ≤ length self.new.supports) }
         ensures grown { length self.old.supports ≤ length self.new.supports }

@@ -38,8 +38,8 @@ impl PlaceSet {
         }
     }
 
-    /// There is room for so many places at least; the set stays. After `NoMemory` all is as before. Linear time in the number
-    /// of places.
+    /// There is room for so many places at least; the set stays. After `NoMemory` all is as before. Amortized constant time for
+    /// each place more than before: where there is too little room, it becomes twice as much at least.
     pub fn reserve(&mut self, places: u32) -> Result<(), NoMemory>
         ensures room { OnOk result (places ≤ length self.new) }
         ensures kept { length self.old ≤ length self.new }
@@ -50,10 +50,11 @@ impl PlaceSet {
         if places <= self.flags.len() {
             return Ok(());
         }
-        if self.queue.reserve(places).is_err() {
+        let room = places.max(self.flags.len().saturating_mul(2));
+        if self.queue.reserve(room).is_err() {
             return Err(NoMemory);
         }
-        match self.flags.resize(places, false) {
+        match self.flags.resize(room, false) {
             Ok(()) => Ok(()),
             Err(_) => Err(NoMemory),
         }

@@ -1,24 +1,15 @@
-//! Rows in order, by one number each.
+//! Rows in order.
 ghost use Rattle.std.specs.Prelude.{◌≡◌};
-ghost use Rattle.crgc_ids.specs.Actor.{IsActor};
 ghost use Rattle.row_sums.specs.Orders as orders;
 
-use crgc_ids::{ActorCount, ActorId, MOST_ACTORS, PairCount};
+use crgc_ids::{ActorCount, ActorId, PairCount};
 use std::cmp::Ordering;
 
-/// The number of an actor among all of 16 nodes with 262,144 serials each.
-fn rank(actor: ActorId) -> u64
-    ensures value { result ≡ orders.rank actor }
-    ensures actor { IsActor actor }
-{
-    u64::from(MOST_ACTORS) * actor.node().get() as u64 + actor.serial() as u64
-}
-
-/// Actors by node, then by serial: what `cmp` answers, by one comparison.
+/// Actors by node, then by serial.
 pub fn compare_actors(a: ActorId, b: ActorId) -> Ordering
     ensures { result ≡ orders.compare_actors a b }
 {
-    rank(a).cmp(&rank(b))
+    a.cmp(&b)
 }
 
 /// Rows that count actors, by actor.
@@ -32,7 +23,5 @@ pub fn compare_counts(r: &ActorCount, s: &ActorCount) -> Ordering
 pub fn compare_pairs(r: &PairCount, s: &PairCount) -> Ordering
     ensures { result ≡ orders.compare_pairs (r.now.owner, r.now.target) (s.now.owner, s.now.target) }
 {
-    let first = 4_194_304 * rank(r.owner) + rank(r.target);
-    let second = 4_194_304 * rank(s.owner) + rank(s.target);
-    first.cmp(&second)
+    compare_actors(r.owner, s.owner).then(compare_actors(r.target, s.target))
 }

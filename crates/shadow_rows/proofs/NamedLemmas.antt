@@ -2,10 +2,8 @@
 use Rattle.std.proofs.Common.{◌≡◌, ◌&&◌, ◌||◌, ◌+◌, ◌<◌, ℕ, Bool, true, false, not, List, [], ◌∷◌, ◌++◌, get_or, length, map, take, refl, sym, ◌∙◌, ap, subst, append_assoc, inl, inr}
 use Rattle.std.proofs.lemmas.List.{take_more}
 use Rattle.std.proofs.lemmas.List.Elements.{filter-append}
-use Rattle.std.proofs.lemmas.List.Sorted.{list_any-IsPermutation}
 use Rattle.std.proofs.lemmas.Map.Views.{any-filter_same}
 use Rattle.std.specs.List.{AllByRecursion, list_any}
-use Rattle.std.specs.List.Sorted.{IsPermutation}
 use Rattle.crgc_ids.specs.Actor.{Actor, same_actor}
 use Rattle.crgc_ids.specs.Members.{IsAmong}
 use Rattle.crgc_ids.specs.declared.rising.ActorCount.{ActorCount}
@@ -20,10 +18,10 @@ use Rattle.shadow_rows.specs.Rows.{NamesRows}
 use Rattle.shadow_rows.specs.Tabled.{ArePairsNamed, row_names, unnamed}
 
 -- where those of the actors are named that were not, all are
-pub names-sorted : (old new names sorted : List Actor) → IsPermutation (unnamed old names) sorted → NamesRows old new sorted → NamesRows old new names
-names-sorted old new names sorted moved named = λ a.
+pub names-new : (old new names added : List Actor) → added ≡ unnamed old names → NamesRows old new added → NamesRows old new names
+names-new old new names added are named = λ a.
     named a ∙ ap (λ b. is_named old a || b) (
-    sym (list_any-IsPermutation (same_actor a) (unnamed old names) sorted moved)
+    ap (list_any (same_actor a)) are
     ∙ any-filter_same (same_actor a) (λ k. not (is_named old k)) (not (is_named old a)) (λ k same. ap (λ x. not (is_named old x)) (sym ((same_actor-decides a k).0 same))) names
     ) ∙ or-not (is_named old a) (list_any (same_actor a) names)
   where

@@ -136,9 +136,9 @@ fn add_names(
     Ok(())
 }
 
-/// The actors that the rows name are named, rising, and the pairs of the rows are there; the answer has the numbers of their
-/// edges. After `NoMemory` some of them may be there. On average, time in proportion to n log n for n rows, and logarithmic in the
-/// number of edges for each.
+/// The actors that the rows name are named, in the order of the rows, and the pairs of the rows are there; the answer has the
+/// numbers of their edges. After `NoMemory` some of them may be there. On average, time in proportion to the number of rows, and
+/// logarithmic in the number of edges for each.
 pub fn grow(
     alloc: Global,
     shadows: &mut ShadowTable,

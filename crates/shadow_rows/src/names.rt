@@ -1,7 +1,6 @@
 //! The actors that the rows of a bulletin name first.
 ghost use Rattle.std.specs.Prelude.{◌≡◌, ◌++◌, ◌∷◌, ◌<◌, [], IfOk, OnOk, map};
 ghost use Rattle.std.specs.List.{AllByRecursion};
-ghost use Rattle.std.specs.List.Sorted.{IsPermutation};
 ghost use Rattle.history_model.specs.Ledgers.{pair_names};
 ghost use Rattle.shadow_rows.specs.Tabled.{AreCounts, row_names, unnamed};
 
@@ -10,8 +9,8 @@ use history_model::StateRow;
 use shadow_table::ShadowTable;
 use std::alloc::Global;
 
-/// The actors that the rows name and the table does not, as often as the rows do, rising. Linear time in the number of rows, on
-/// average, and in proportion to n log n for n names of such actors.
+/// The actors that the rows name and the table does not, as often as the rows do, in their order. Linear time in the number of rows,
+/// on average.
 pub fn new_names(
     alloc: Global,
     shadows: &ShadowTable,
@@ -21,7 +20,7 @@ pub fn new_names(
     released: &[PairCount],
 ) -> Result<Vec<ActorId>, NoMemory>
     ensures names { IfOk result (λ v.
-        IsPermutation (unnamed shadows.now.names (row_names states.now sent.now created.now released.now)) v.items) }
+        v.items ≡ unnamed shadows.now.names (row_names states.now sent.now created.now released.now)) }
     ensures fits { OnOk result (AreCounts states.now sent.now created.now released.now) }
 {
     let mut names = Vec::new(alloc);
@@ -29,7 +28,6 @@ pub fn new_names(
     push_counts(&mut names, shadows, sent)?;
     push_pairs(&mut names, shadows, created)?;
     push_pairs(&mut names, shadows, released)?;
-    names.sort_unstable();
     Ok(names)
 }
 

@@ -9,7 +9,7 @@ use crgc_ids::{ActorCount, ActorCounts, ActorId, NoMemory, PairCount, PairCounts
 use std::alloc::Global;
 use std::marker::Model;
 
-/// Rows as they came, added up each time that there are twice as many. It keeps its allocator. Contracts see the rows.
+/// Rows as they came, added up each time that there are four times as many. It keeps its allocator. Contracts see the rows.
 #[derive(Drop)]
 pub struct NodeLog {
     alloc: Global,
@@ -59,15 +59,15 @@ impl NodeLog {
             self.rows.truncate(before);
             return Err(NoMemory);
         }
-        self.add_up_if_doubled();
+        self.add_up_if_many();
         Ok(())
     }
 
-    /// Where there are twice as many rows as after the last time, they are added up.
-    fn add_up_if_doubled(&mut self)
+    /// Where there are four times as many rows as after the last time, they are added up.
+    fn add_up_if_many(&mut self)
         ensures { HaveTotalsOf self.old self.new }
     {
-        if self.rows.len() / 2 > self.added_up {
+        if self.rows.len() / 4 > self.added_up {
             add_up(&mut self.rows);
             self.added_up = self.rows.len();
         }

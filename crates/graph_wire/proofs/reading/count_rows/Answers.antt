@@ -10,7 +10,7 @@ use Rattle.graph_wire.proofs.reading.count_rows.Goals as goal
 
 pub returns-in_err-row-clause-gives : goal.returns-in_err-row-clause-gives
 returns-in_err-row-clause-gives c =
-    let p = err_from_is_err_and c.from_residual.result c.from_residual.ensures.1 in
+    let p = err_from_is_err_and c.from_residual-in_err-row.result c.from_residual-in_err-row.ensures.1 in
     rw (p.1, p.2) (ends_over count_key (count_row c.args.wide) (actors_of c.loop-i.table) (actors_of c.args.table.now) c.loop-i.invariant.marks.actors c.loop-i.rows c.args.count c.loop-i.i c.loop-i.last c.loop-i.cursor (rows_at count_key (count_row c.args.wide (actors_of c.args.table.now)) c.args.count None c.args.cursor.now) c.in_err-row.field-0.0 c.loop-i-test.true c.in_err-row.ensures.gives c.loop-i.invariant.read)
 
 pub push-requires-clause-rising : goal.push-requires-clause-rising

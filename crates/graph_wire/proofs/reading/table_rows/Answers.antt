@@ -16,17 +16,17 @@ use Rattle.graph_wire.proofs.reading.table_rows.Goals as goal
 
 pub returns-in_err-actor-clause-gives : goal.returns-in_err-actor-clause-gives
 returns-in_err-actor-clause-gives c =
-    let p = err_from_is_err_and c.from_residual.result c.from_residual.ensures.1 in
+    let p = err_from_is_err_and c.from_residual-in_err-actor.result c.from_residual-in_err-actor.ensures.1 in
     rw (p.1, p.2) (ends actor_key table_row (actors_of c.loop-i.table.items) c.args.count c.loop-i.i c.loop-i.last c.loop-i.cursor (rows_at actor_key table_row c.args.count None c.args.cursor.now) c.in_err-actor.field-0.0 c.loop-i-test.true c.in_err-actor.ensures.gives c.loop-i.invariant.read)
 
 pub loop-i-init : goal.loop-i-init
 loop-i-init c =
-    let items = c.new-table.ensures.items in
+    let items = c.in_ok-table.ensures in
     let actors = ap actors_of items ∙ actors_of-none in
     let all : c.args.count - 0 ≡ c.args.count = omega arith in
     let read : Result (List Actor × Place) WireFault = rows_at actor_key table_row c.args.count None c.args.cursor.now in
     record {
-      read = subst (λ n. with_front (actors_of c.new-table.result.items) (rows_at actor_key table_row n None c.args.cursor.now) ≡ read) (sym all) (subst (λ front. with_front front read ≡ read) (sym actors) (nothing-before read));
+      read = subst (λ n. with_front (actors_of c.in_ok-table.table.items) (rows_at actor_key table_row n None c.args.cursor.now) ≡ read) (sym all) (subst (λ front. with_front front read ≡ read) (sym actors) (nothing-before read));
       ready = subst (ActorsReady None) (sym actors) actors-none;
       unmarked = subst (AllByRecursion (λ e. e.named ≡ false)) (sym items) tt;
     }

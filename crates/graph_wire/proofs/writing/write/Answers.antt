@@ -5,7 +5,7 @@ use Rattle.graph_wire.proofs.writing.write.Goals as goal
 pub put_delta-requires : goal.put_delta-requires
 put_delta-requires c =
     let t = c.in_ok-table.ensures in
-    delta-ready c.args.b.now c.in-Delta.d c.deref.result.now c.len-wide.result c.in-Delta.is c.requires t.actors t.rises (c.deref.ensures.value ∙ t.value) (c.len-wide.ensures ∙ sym c.deref.ensures.len)
+    delta-ready c.args.b.now c.in-Delta.d c.deref-in-Delta.result.now c.len-wide.result c.in-Delta.is c.requires t.actors t.rises (c.deref-in-Delta.ensures.value ∙ t.value) (c.len-wide.ensures ∙ sym c.deref-in-Delta.ensures.len)
 
 pub put_window-requires : goal.put_window-requires
 put_window-requires c =

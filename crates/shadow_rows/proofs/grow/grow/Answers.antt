@@ -2,7 +2,7 @@ use Rattle.std.proofs.Common.{subst}
 use Rattle.shadow_rows.specs.Rows.{NamesRows}
 use Rattle.shadow_rows.specs.Tabled.{row_names}
 use Rattle.shadow_rows.proofs.GrowLemmas.{edges-extend-more, edges-extend-self, edges-same}
-use Rattle.shadow_rows.proofs.NamedLemmas.{created-named, names-sorted, released-named}
+use Rattle.shadow_rows.proofs.NamedLemmas.{created-named, names-new, released-named}
 use Rattle.shadow_rows.proofs.NumberedLemmas.{numbered-more}
 use Rattle.shadow_rows.proofs.grow.grow.Goals as goal
 
@@ -16,24 +16,24 @@ pub add_pairs-requires-clause-named : goal.add_pairs-requires-clause-named
 add_pairs-requires-clause-named c =
     let old = c.args.shadows.now.names in
     let new = c.add_names.new.shadows.names in
-    let sorted : NamesRows old new c.in_ok-names.names.items = subst (NamesRows old new) c.as_slice.ensures.value c.in_ok-add_names.ensures.ok in
-    let all = names-sorted old new (row_names c.args.states.now c.args.sent.now c.args.created.now c.args.released.now) c.in_ok-names.names.items c.in_ok-names.ensures.names sorted in
+    let added : NamesRows old new c.in_ok-names.names.items = subst (NamesRows old new) c.as_slice.ensures.value c.in_ok-add_names.ensures.ok in
+    let all = names-new old new (row_names c.args.states.now c.args.sent.now c.args.created.now c.args.released.now) c.in_ok-names.names.items c.in_ok-names.ensures.names added in
     created-named old new c.args.states.now c.args.sent.now c.args.created.now c.args.released.now all
 
 pub add_pairs-requires-2-clause-named : goal.add_pairs-requires-2-clause-named
 add_pairs-requires-2-clause-named c =
     let old = c.args.shadows.now.names in
     let new = c.add_names.new.shadows.names in
-    let sorted : NamesRows old new c.in_ok-names.names.items = subst (NamesRows old new) c.as_slice.ensures.value c.in_ok-add_names.ensures.ok in
-    let all = names-sorted old new (row_names c.args.states.now c.args.sent.now c.args.created.now c.args.released.now) c.in_ok-names.names.items c.in_ok-names.ensures.names sorted in
+    let added : NamesRows old new c.in_ok-names.names.items = subst (NamesRows old new) c.as_slice.ensures.value c.in_ok-add_names.ensures.ok in
+    let all = names-new old new (row_names c.args.states.now c.args.sent.now c.args.created.now c.args.released.now) c.in_ok-names.names.items c.in_ok-names.ensures.names added in
     released-named old new c.args.states.now c.args.sent.now c.args.created.now c.args.released.now all
 
 pub returns-clause-named : goal.returns-clause-named
 returns-clause-named c =
     let old = c.args.shadows.now.names in
     let new = c.add_names.new.shadows.names in
-    let sorted : NamesRows old new c.in_ok-names.names.items = subst (NamesRows old new) c.as_slice.ensures.value c.in_ok-add_names.ensures.ok in
-    names-sorted old new (row_names c.args.states.now c.args.sent.now c.args.created.now c.args.released.now) c.in_ok-names.names.items c.in_ok-names.ensures.names sorted
+    let added : NamesRows old new c.in_ok-names.names.items = subst (NamesRows old new) c.as_slice.ensures.value c.in_ok-add_names.ensures.ok in
+    names-new old new (row_names c.args.states.now c.args.sent.now c.args.created.now c.args.released.now) c.in_ok-names.names.items c.in_ok-names.ensures.names added
 
 pub returns-clause-created : goal.returns-clause-created
 returns-clause-created c =

@@ -17,4 +17,4 @@ returns-clause-ok c =
     let old = c.self.inside.rows.items in
     let is = pushed old c.push_rows.new.rows.items c.args.side c.args.messages.now c.as_slice.result.now c.args.pairs.now c.as_slice-2.result.now c.push_rows.result c.is_err.result c.is_err.ensures.value c.if-is_err.false c.as_slice.ensures.value c.as_slice-2.ensures.value c.push_rows.ensures.ok in
     let notes = notes_more old c.push_rows.new.rows.items c.args.side c.args.messages.now c.args.pairs.now is in
-    rw (← c.self.view_is) (notes-summed old c.push_rows.new.rows.items c.add_up_if_doubled.new.self c.args.side c.args.messages.now c.args.pairs.now notes c.add_up_if_doubled.ensures)
+    rw (← c.self.view_is) (notes-summed old c.push_rows.new.rows.items c.add_up_if_many.new.self c.args.side c.args.messages.now c.args.pairs.now notes c.add_up_if_many.ensures)
