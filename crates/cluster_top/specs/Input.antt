@@ -14,7 +14,8 @@ pub record GaveAll {S : Type 0} (left : S → Option (List ℕ)) (given : S → 
   pub stands : faults new ≡ faults old
 
 -- it gave these bytes, one more than may be read, and no read failed
-pub record GaveTooMuch {S : Type 0} (left : S → Option (List ℕ)) (given : S → List ℕ) (faults : S → ℕ) (old new : S) (bytes : List ℕ) : Type 0 where
+pub record GaveTooMuch {S : Type 0} (left : S → Option (List ℕ)) (given : S → List ℕ) (faults : S → ℕ) (old new : S) (bytes : List ℕ)
+    : Type 0 where
   pub taken : Takes left given old new bytes
   pub beyond : length bytes ≡ MOST_BYTES + 1
   pub stands : faults new ≡ faults old

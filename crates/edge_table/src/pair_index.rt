@@ -49,7 +49,8 @@ impl PairIndex {
     /// The number of the pair, if it is one of the first numbers of the list. At most 8 looks at pairs.
     pub fn number_near(&self, owner: ActorId, target: ActorId, numbers: &[u32]) -> Option<u32>
         requires { (n : ℕ) → IsAmong n numbers.now → n < length self.now.pairs }
-        ensures near { (n : ℕ) → position (same_pair (owner, target)) self.now.pairs ≡ Some n → IsAmong n (take NEAR numbers.now) → result ≡ Some n }
+        ensures near { (n : ℕ) → position (same_pair (owner, target)) self.now.pairs ≡ Some n → IsAmong n (take NEAR numbers.now)
+            → result ≡ Some n }
         ensures number { IfSome result (λ n. position (same_pair (owner, target)) self.now.pairs ≡ Some n) }
     {
         for i in 0..numbers.len().min(NEAR) {

@@ -84,6 +84,7 @@ pub fn one_more_bulletin_counts()
 /// Where one node more is taken as lost, what it told no longer counts, and what others admitted from it counts. Nothing else
 /// of a fold depends on which nodes are lost. Which these are depends on the links whose Final is folded, in whatever order.
 pub fn one_more_lost_node_moves_counts()
-    ensures counts { (cl : Cluster) (s : ℕ) (lost more : ℕ → Bool) (f : Fold) → s < cl.nodes → IsLostToo s lost more → MovesCounts cl s lost more f }
+    ensures counts { (cl : Cluster) (s : ℕ) (lost more : ℕ → Bool) (f : Fold) → s < cl.nodes → IsLostToo s lost more
+        → MovesCounts cl s lost more f }
     ensures lost { (cl : Cluster) (f : Fold) (links : List (ℕ × ℕ)) → AreLinksOf cl f links → lost_nodes cl.nodes links ≡ lost_of cl f }
 {}

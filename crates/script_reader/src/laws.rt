@@ -7,5 +7,6 @@ ghost use Rattle.script_reader.specs.Valid.{Scripted};
 
 /// A text that stands for a script is read as that script, unless memory runs out: it stands for no other, and has no fault.
 pub fn script_is_read()
-    ensures { (bytes : List ℕ) (s : Scripted) (r : Result Scripted Reads) → StandsFor bytes s → Answers bytes r → (r ≡ Ok s) ⊎ (r ≡ Err NoMemory) }
+    ensures { (bytes : List ℕ) (s : Scripted) (r : Result Scripted Reads) → StandsFor bytes s → Answers bytes r
+        → (r ≡ Ok s) ⊎ (r ≡ Err NoMemory) }
 {}
