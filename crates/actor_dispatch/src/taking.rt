@@ -51,7 +51,8 @@ pub(crate) fn take_ready<G: Gate, R: Wait>(
     }
 }
 
-// Turns of these actors, one after another.
+// Turns of these actors, one after another, from the one on with which the worker begins. Where one does not begin after another did,
+// others have taken those that follow.
 fn take_all<G: Gate, R: Wait>(
     rt: &R,
     alloc: Global,
@@ -70,7 +71,7 @@ fn take_all<G: Gate, R: Wait>(
     ensures err { IfErr result (λ halt. last_reply pass.new.own ≡ Some (Halted halt)) }
 {
     let mut turned = Turned::None;
-    for &actor in hints.iter() {
+    for &actor in hints.iter().skip(first_of(worker, hints.len())) {
         match try_turn(
             rt,
             alloc,
@@ -83,12 +84,24 @@ fn take_all<G: Gate, R: Wait>(
             Op::Take { actor },
         ) {
             Ok(Turned::Some) => turned = Turned::Some,
+            Ok(Turned::None) if turned == Turned::Some => return Ok(Turned::Some),
             Ok(Turned::None) => {}
             Ok(Turned::Over) => return Ok(Turned::Over),
             Err(halt) => return Err(halt),
         }
     }
     Ok(turned)
+}
+
+// With which of so many actors the worker begins: workers begin at four places, so that they seldom come upon the same actors.
+fn first_of(worker: u32, actors: usize) -> usize {
+    let quarter = actors / 4;
+    match worker % 4 {
+        0 => 0,
+        1 => quarter,
+        2 => 2 * quarter,
+        _ => 3 * quarter,
+    }
 }
 
 /// The turn that a wake or a take begins, if it begins one, is run; first the gate is told of it.

@@ -23,9 +23,12 @@ use world_object::Shared;
 // How many microseconds a worker stays away from the lock where only others have something to do.
 const PAUSE: u64 = 50;
 
+// How many seeds a worker wakes one after another, before it asks again for actors that may take a message.
+const WAKES: u32 = 16;
+
 /// Runs turns through the lock until nothing is left to do; the Err is why the cluster has halted. `code` is that of the cluster
-/// with which the lock was made. The worker takes the actors that a refill tells of; where there are none it wakes, and where
-/// there is nothing to wake it carries what it knows to be on links. The gate is told of each turn as it begins.
+/// with which the lock was made. The worker takes the actors that a refill tells of; where there are none it wakes some seeds, and
+/// where there is nothing to wake it carries what it knows to be on links. The gate is told of each turn as it begins.
 ///
 /// Where it ends with Ok, each turn that it began has ended, unless its node went down. It may wait: for its turn at the lock,
 /// and, asleep, for others whose turns are not at their end.
@@ -102,7 +105,7 @@ fn carry_or_finish<R: Wait + Clock>(
     }
 }
 
-// Turns of actors that may take a message, or else of the seed that wakes next; whether there was any.
+// Turns of actors that may take a message, or else of the seeds that wake next; whether there was any.
 fn turn<G: Gate, R: Wait>(
     rt: &R,
     alloc: Global,
@@ -122,9 +125,36 @@ fn turn<G: Gate, R: Wait>(
     match take_ready(rt, alloc, lock, pass, code, nodes, gate, worker) {
         Ok(Turned::Some) => Ok(true),
         Ok(Turned::Over) => Ok(false),
-        Ok(Turned::None) => wake(rt, alloc, lock, pass, code, nodes, gate, worker),
+        Ok(Turned::None) => wake_some(rt, alloc, lock, pass, code, nodes, gate, worker),
         Err(halt) => Err(halt),
     }
+}
+
+// Turns of the seeds that wake next, one after another; whether there was any.
+fn wake_some<G: Gate, R: Wait>(
+    rt: &R,
+    alloc: Global,
+    lock: &TurnLock<Shared>,
+    pass: &mut Pass<Shared>,
+    code: &Code,
+    nodes: &mut NodeSet,
+    gate: &G,
+    worker: u32,
+) -> Result<bool, Halt>
+    requires may { CanAsk lock.now pass.old }
+    requires code { code.now ≡ lock.now.start.script.code }
+    ensures same { IsSame pass.old pass.new }
+    ensures turns { OnOk result (LeavesNone pass.old.own pass.new.own) }
+    ensures err { IfErr result (λ halt. last_reply pass.new.own ≡ Some (Halted halt)) }
+{
+    for woken in 0..WAKES {
+        match wake(rt, alloc, lock, pass, code, nodes, gate, worker) {
+            Ok(true) => {}
+            Ok(false) => return Ok(woken > 0),
+            Err(halt) => return Err(halt),
+        }
+    }
+    Ok(true)
 }
 
 // The turn of the seed that wakes next; whether there was one.

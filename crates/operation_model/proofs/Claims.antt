@@ -63,7 +63,7 @@ slice_get-longer (y ∷ ys) more zero x is = is
 slice_get-longer (y ∷ ys) more (suc k) x is = slice_get-longer ys more k x is
 
 -- a bulletin stays in its stream
-stands-longer : (cl : Cluster) (e : Event) (w : List Event) (o k : ℕ) (m : Notice) → slice_get (stream cl o w) k ≡ Some m → slice_get (stream cl o (e ∷ w)) k ≡ Some m
+pub stands-longer : (cl : Cluster) (e : Event) (w : List Event) (o k : ℕ) (m : Notice) → slice_get (stream cl o w) k ≡ Some m → slice_get (stream cl o (e ∷ w)) k ≡ Some m
 stands-longer cl e w o k m is =
     let grows = stream-grows cl o (e ∷ []) w in
     subst (λ xs. slice_get xs k ≡ Some m) (sym grows.1) (slice_get-longer (stream cl o w) grows.0 k m is)

@@ -24,13 +24,13 @@ module _ {A : Type 0} where
   get-set_other (x ∷ xs) (suc i) zero y apart = refl
   get-set_other (x ∷ xs) (suc i) (suc j) y apart = get-set_other xs i j y (λ e. apart (ap suc e))
 
-  get-last : (xs : List A) (i : ℕ) (y : A) → i ≡ length xs → slice_get (xs ++ y ∷ []) i ≡ Some y
+  pub get-last : (xs : List A) (i : ℕ) (y : A) → i ≡ length xs → slice_get (xs ++ y ∷ []) i ≡ Some y
   get-last [] zero y e = refl
   get-last [] (suc i) y e = absurd (omega (arith, e))
   get-last (x ∷ xs) zero y e = absurd (omega (arith, e))
   get-last (x ∷ xs) (suc i) y e = get-last xs i y (omega (arith, e))
 
-  get-not_last : (xs : List A) (j : ℕ) (y : A) → j ≢ length xs → slice_get (xs ++ y ∷ []) j ≡ slice_get xs j
+  pub get-not_last : (xs : List A) (j : ℕ) (y : A) → j ≢ length xs → slice_get (xs ++ y ∷ []) j ≡ slice_get xs j
   get-not_last [] zero y apart = absurd (apart refl)
   get-not_last [] (suc j) y apart = refl
   get-not_last (x ∷ xs) zero y apart = refl

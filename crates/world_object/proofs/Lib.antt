@@ -1,3 +1,4 @@
+pub mod Spelled
 pub mod Standings
 pub mod Moving
 pub mod Answering

@@ -5,6 +5,7 @@ use Rattle.std.proofs.lemmas.Bool.{and_from, false≢true}
 use Rattle.history_model.specs.declared.events.Event.{Event}
 use Rattle.history_model.specs.declared.events.Event.TheVariants.{Seed, Tie, Spawn, Send, Drop, Retire}
 use Rattle.history_model.specs.Legal.{refusal}
+use Rattle.history_model.specs.Rows.{onto}
 use Rattle.history_model.specs.Story.{Story}
 use Rattle.script_reader.specs.Valid.{Scripted}
 use Rattle.run_model.specs.Doing.{cluster_of}
@@ -20,7 +21,8 @@ use Rattle.script_actors.proofs.Standings as actors
 use Rattle.script_progress.proofs.Steps as progress
 use Rattle.world_object.specs.declared.parts.ClusterParts.{ClusterParts}
 use Rattle.world_object.specs.Answering.{Happens}
-use Rattle.world_object.specs.Standing.{Stands}
+use Rattle.world_object.specs.Standing.{AreSpellings, Stands}
+use Rattle.world_object.proofs.Spelled.{spellings-onto}
 
 -- an event of a round is no act
 round-due : (s : Scripted) (e : Event) (h : List Event) → is_of_round e ≡ true → IsDue s e h
@@ -39,7 +41,10 @@ pub sound-round : (s : Scripted) (e : Event) (h : List Event) → is_of_round e 
 sound-round s e h of legal sound = sound-next s e h sound legal (round-due s e h of)
 
 -- the parts stand with a longer history
-module _ (old : ClusterParts) (stands : Stands old) (events : List Event) (w : Story) (cluster : w.cluster ≡ old.world.cluster) (h : List Event) (past : w.past ≡ h) where
+module _ (old : ClusterParts) (stands : Stands old) (events : List Event) (w : Story) (cluster : w.cluster ≡ old.world.cluster) (past : w.past ≡ onto old.world.past events) where
+  abbrev h : List Event
+  h = onto old.world.past events
+
   pub stands-with : (t : Table) (p : Used) → AreActorsAt old.script.value h t → IsProgressAt old.script.value h p → IsSound old.script.value h → Stands (record old { world = w; actors = t; progress = p })
   stands-with t p at used sound = record {
     script = stands.script;
@@ -48,6 +53,7 @@ module _ (old : ClusterParts) (stands : Stands old) (events : List Event) (w : S
     actors = subst (λ x. AreActorsAt old.script.value x t) (sym past) at;
     progress = subst (λ x. IsProgressAt old.script.value x p) (sym past) used;
     sound = subst (IsSound old.script.value) (sym past) sound;
+    spellings = subst (λ x. AreSpellings old.script.value x old.spellings) (sym past) (spellings-onto old.script.value old.world.past events old.spellings stands.spellings);
   }
 
 -- an event of a round happens
@@ -56,7 +62,7 @@ stands-round old new e stands of happens =
     let s = old.script.value in
     let h = old.world.past in
     subst Stands (sym happens.others)
-    (stands-with old stands (e ∷ []) new.world happens.cluster (e ∷ h) happens.past old.actors old.progress
+    (stands-with old stands (e ∷ []) new.world happens.cluster happens.past old.actors old.progress
     (actors.round-events s (e ∷ []) h old.actors (one-round e of) stands.actors)
     (progress.round-events s (e ∷ []) h old.progress (one-round e of) stands.progress)
     (sound-round s e h of happens.follow.0 stands.sound))
@@ -68,7 +74,7 @@ stands-rounds old new e f stands of_e of_f happens =
     let h = old.world.past in
     let both = and_from (is_of_round f) (list_all is_of_round (e ∷ [])) of_f (one-round e of_e) in
     subst Stands (sym happens.others)
-    (stands-with old stands (e ∷ f ∷ []) new.world happens.cluster (f ∷ e ∷ h) happens.past old.actors old.progress
+    (stands-with old stands (e ∷ f ∷ []) new.world happens.cluster happens.past old.actors old.progress
     (actors.round-events s (f ∷ e ∷ []) h old.actors both stands.actors)
     (progress.round-events s (f ∷ e ∷ []) h old.progress both stands.progress)
     (sound-round s f (e ∷ h) of_f happens.follow.2.0 (sound-round s e h of_e happens.follow.0 stands.sound)))

@@ -78,7 +78,7 @@ module _ (old mid new : ClusterParts) (es : List Event) (t : Table) (u : Used) (
 
   pub stands-changed : Stands old → (let s = old.script.value in let h = onto old.world.past es in AreActorsAt s h t × IsProgressAt s h u × IsSound s h) → Stands new
   stands-changed stands at =
-      subst Stands (sym new-is) (stands-with old stands es mid.world happens.cluster (onto old.world.past es) happens.past t u at.0 at.1 at.2)
+      subst Stands (sym new-is) (stands-with old stands es mid.world happens.cluster happens.past t u at.0 at.1 at.2)
 
 -- ---- turns begin
 
@@ -197,7 +197,7 @@ module _ (leave : ActsLeave) (stay : ProgressStays) (old : ClusterParts) (stands
       let s = old.script.value in
       let h = old.world.past in
       subst Stands (sym happens.others)
-      (stands-with old stands (events.Spawn a ∷ []) new.world happens.cluster (events.Spawn a ∷ h) happens.past t old.progress
+      (stands-with old stands (events.Spawn a ∷ []) new.world happens.cluster happens.past t old.progress
       at (acts-stay (acts.Spawn b)) (sound-next s (events.Spawn a) h stands.sound happens.follow.0 (act-is_due s a h (acts.Spawn b) next.due)))
 
 -- ---- rests
@@ -246,7 +246,7 @@ quiet-stands actors_stay stay old new e stands no_turn no_plan due happens =
     let s = old.script.value in
     let h = old.world.past in
     subst Stands (sym happens.others)
-    (stands-with old stands (e ∷ []) new.world happens.cluster (e ∷ h) happens.past old.actors old.progress
+    (stands-with old stands (e ∷ []) new.world happens.cluster happens.past old.actors old.progress
     (actors_stay s e h old.actors no_turn stands.actors) (stay s e h old.progress no_plan stands.progress) (sound-next s e h stands.sound happens.follow.0 due))
 
 -- ---- births

@@ -2,5 +2,6 @@ pub mod State
 pub mod Standing
 pub mod Answering
 pub mod Searching
+pub mod Spelled
 pub mod Turns
 pub mod Locked

@@ -15,6 +15,7 @@ mod refusing;
 mod resting;
 mod searching;
 mod shared;
+mod spellings;
 mod telling;
 mod turning;
 mod verdicts;

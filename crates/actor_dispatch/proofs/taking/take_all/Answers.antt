@@ -12,3 +12,7 @@ loop-actor-preserved g c =
 pub returns-in-Ok-Over-clause-turns : goal.returns-in-Ok-Over-clause-turns
 returns-in-Ok-Over-clause-turns g c =
     leaves-then c.args.pass.now.own c.loop-actor.pass.own c.try_turn.new.pass.own c.loop-actor.invariant.1 c.in-Ok-Over.ensures.turns
+
+pub returns-in-Ok-None-clause-turns : goal.returns-in-Ok-None-clause-turns
+returns-in-Ok-None-clause-turns g c =
+    leaves-then c.args.pass.now.own c.loop-actor.pass.own c.try_turn.new.pass.own c.loop-actor.invariant.1 c.in-Ok-None.ensures.turns

@@ -1,4 +1,4 @@
-use Rattle.world_object.proofs.parts.ClusterParts.bytes_of.Goals as goal
+use Rattle.world_object.proofs.parts.ClusterParts.spell.Goals as goal
 
 pub is_spellable-requires : goal.is_spellable-requires
 is_spellable-requires c =
