@@ -42,9 +42,9 @@ const OPEN: u64 = 0;
 const SHUT: u64 = 1;
 
 // How often a pass looks at a door that is shut, and how many microseconds it stays away from it after that.
-const LOOKS: u32 = 1000;
+const LOOKS: u32 = 2000;
 
-const PAUSE: u64 = 50;
+const PAUSE: u64 = 10;
 
 /// A lock whose passes keep a history. Contracts see which lock it is, as its passes do, and with what state it was made.
 #[derive(Drop)]
