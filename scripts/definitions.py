@@ -180,7 +180,7 @@ class Contracts:
         modules = set(re.findall(r"^pub mod (\w+)", root, re.MULTILINE))
         for name in sorted(glob.glob(os.path.join(folder, "**", "*.rt"), recursive=True)):
             module = os.path.relpath(name, folder)[:-3].split(os.sep)[0]
-            if os.path.basename(name).endswith("tests.rt"):
+            if crate.endswith("_tests") or os.path.basename(name).endswith("tests.rt"):
                 continue
             self.read_file(name, module in ("lib", "main"), module in modules, is_law_module(crate, module))
 

@@ -18,6 +18,3 @@ pub use instr::{Instr, InstrList, Name, NameList};
 pub use locals::Locals;
 pub use names::{is_behaviour_name, is_local_name, message_number};
 pub use turn::Turn;
-
-#[cfg(test)]
-mod tests;

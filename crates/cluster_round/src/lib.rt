@@ -13,6 +13,3 @@ mod windowing;
 
 pub use halt::RoundHalt;
 pub use rounds::round;
-
-#[cfg(test)]
-mod tests;

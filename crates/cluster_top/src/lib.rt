@@ -9,8 +9,6 @@ mod refusal;
 mod running;
 mod script_lines;
 mod status;
-#[cfg(test)]
-mod tests;
 mod top;
 mod working;
 

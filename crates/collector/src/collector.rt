@@ -231,7 +231,7 @@ impl Collector {
     /// The verdict of the node's sweep at the cut: it stops each actor of its node that is known, not on a lost node, not marked
     /// and not stopped before, and says why. Whom it stops is remembered. After `NoMemory` all is as before. Constant time where
     /// nothing was folded or dropped since the last sweep; else time in proportion to what the folds since then touched and what
-    /// hung on it, times a logarithm at most, on average. Linear time in the graph where a node was newly lost, or where the last
+    /// hung on it, times a logarithm at most. Linear time in the graph where a node was newly lost, or where the last
     /// sweep ran out of memory.
     pub fn sweep(&mut self) -> Result<Verdict, NoMemory>
         requires { IsSettled self.old }
@@ -288,7 +288,7 @@ impl Collector {
     }
 
     /// Whom this collector stopped is dropped from its graph: later verdicts are the same without them. It takes no memory.
-    /// Linear time in the number of actors that it stopped and did not drop yet, on average.
+    /// Linear time in the number of actors that it stopped and did not drop yet.
     pub fn compact(&mut self)
         ensures { Compacts self.old self.new }
     {
@@ -333,7 +333,7 @@ fn remember(
     Ok(())
 }
 
-/// The actors are dropped. Linear time in their number, on average.
+/// The actors are dropped. Linear time in their number.
 fn drop_all(graph: &mut TracedGraph, gone: &[ActorId])
     requires { AllByRecursion (λ a. is_named graph.old.graph.shadows.names a ≡ true) gone.now }
     ensures { DropsAll gone.now graph.old graph.new }

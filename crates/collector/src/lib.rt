@@ -10,6 +10,3 @@ mod stops;
 
 pub use collector::{Collector, Taken};
 pub use read::TakeFault;
-
-#[cfg(test)]
-mod tests;

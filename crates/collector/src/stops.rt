@@ -21,7 +21,7 @@ use std::alloc::Global;
 
 /// The actors that a sweep by the node stops, rising: those at fallen places that are its own, were not stopped before, and are
 /// known, not lost and not marked. All fallen places are taken out, or after `NoMemory` some. Time in proportion to n log n for n
-/// fallen places, on average.
+/// fallen places.
 pub fn find_stopped(
     alloc: Global,
     graph: &mut TracedGraph,
@@ -93,7 +93,7 @@ pub fn actor_at(graph: &ShadowGraph, place: u32) -> ActorId
     graph.actor_at(place).unwrap()
 }
 
-/// Whether a sweep that leaves the actor so marked stops it. Constant time on average.
+/// Whether a sweep that leaves the actor so marked stops it. Constant time.
 pub fn falls(
     graph: &ShadowGraph,
     is_marked: bool,
@@ -106,7 +106,7 @@ pub fn falls(
     actor.node() == node && !is_set(stopped, actor.serial()) && is_unmarked(graph, is_marked, actor)
 }
 
-/// Whether the actor is known, not on a lost node, and not so marked. Constant time on average.
+/// Whether the actor is known, not on a lost node, and not so marked. Constant time.
 fn is_unmarked(graph: &ShadowGraph, is_marked: bool, actor: ActorId) -> bool
     ensures { result ≡ is_unmarked graph.now (λ a. is_marked) actor }
 {

@@ -10,6 +10,3 @@ mod states;
 
 pub use delta::delta_of;
 pub use fault::DeltaFault;
-
-#[cfg(test)]
-mod tests;

@@ -3,19 +3,22 @@ ghost use Rattle.std.specs.Prelude.{◌≡◌, ◌-◌, ◌<◌, ◌++◌, [], �
 ghost use Rattle.edge_table.specs.Ends.{HasSameLists};
 
 use crgc_ids::NoMemory;
+use smallvec::SmallVec;
 use std::alloc::Global;
 use std::marker::Model;
 
-/// The numbers of the edges that lead from a place, and of those that lead to it, with reserved room for more. Contracts see
-/// both lists, and for how many more each has room.
+/// The numbers of the edges that lead from a place, and of those that lead to it, with reserved room for more. Few numbers stand
+/// in the value itself, and more than four of a list in an allocation. Contracts see both lists, and for how many more each has
+/// room.
 #[derive(Drop)]
 pub struct Ends {
-    from: Vec<u32>,
-    to: Vec<u32>,
+    from: SmallVec<u32, 4>,
+    to: SmallVec<u32, 4>,
 }
 
 impl Model for Ends {
-    ghost use Rattle.std.specs.Prelude.{◌-◌, vec_capacity, vec_len};
+    ghost use Rattle.std.specs.Prelude.{◌-◌};
+    ghost use Rattle.smallvec.specs.SmallVec.{small_vec_len};
     ghost use Rattle.edge_table.specs.Ends.{PlaceEnds};
 
     ghost Value = { PlaceEnds };
@@ -23,8 +26,8 @@ impl Model for Ends {
     ghost view = { λ e. record {
       from = e.from.items;
       to = e.to.items;
-      from_room = vec_capacity e.from - vec_len e.from;
-      to_room = vec_capacity e.to - vec_len e.to;
+      from_room = e.from.capacity - small_vec_len e.from;
+      to_room = e.to.capacity - small_vec_len e.to;
     } };
 }
 
@@ -35,8 +38,8 @@ impl Ends {
         ensures to { result.to ≡ [] }
     {
         Ends {
-            from: Vec::new(alloc),
-            to: Vec::new(alloc),
+            from: SmallVec::new(alloc),
+            to: SmallVec::new(alloc),
         }
     }
 

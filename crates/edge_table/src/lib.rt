@@ -7,6 +7,3 @@ mod pair_index;
 mod table;
 
 pub use table::{Edge, EdgeTable};
-
-#[cfg(test)]
-mod tests;

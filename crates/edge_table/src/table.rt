@@ -115,18 +115,18 @@ impl EdgeTable {
         ensures long { length self.now.edges ≡ length self.now.pairs }
     {
         let from = self.places[owner_place as usize].from();
+        let to = self.places[target_place as usize].to();
+        if to.len() < from.len() && to.len() <= NEAR {
+            return self.pairs.number_near(owner, target, to);
+        }
         if let Some(number) = self.pairs.number_near(owner, target, from) {
             return Some(number);
         }
         if from.len() <= NEAR {
             return None;
         }
-        let to = self.places[target_place as usize].to();
         if let Some(number) = self.pairs.number_near(owner, target, to) {
             return Some(number);
-        }
-        if to.len() <= NEAR {
-            return None;
         }
         self.pairs.number_mapped(owner, target)
     }

@@ -6,6 +6,3 @@ pub mod laws;
 mod notes;
 
 pub use actor_log::ActorLog;
-
-#[cfg(test)]
-mod tests;

@@ -21,6 +21,3 @@ pub use printing::{append_end, append_event, append_header};
 pub use reading::read;
 pub use spelling::print;
 pub use verdict::append_verdict;
-
-#[cfg(test)]
-mod tests;

@@ -12,8 +12,3 @@ pub use bulletins::read;
 pub use fault::ReadFault;
 pub use wire_grammar::{WireFault, WireKind};
 pub use writing::write;
-
-#[cfg(test)]
-mod plain;
-#[cfg(test)]
-mod tests;

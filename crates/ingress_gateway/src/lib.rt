@@ -8,6 +8,3 @@ mod names;
 mod numbers;
 
 pub use ingress::{Admit, Ingress};
-
-#[cfg(test)]
-mod tests;

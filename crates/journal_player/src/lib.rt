@@ -10,6 +10,3 @@ mod player;
 
 pub use fault::{Cause, PlayFault};
 pub use journal::play;
-
-#[cfg(test)]
-mod tests;

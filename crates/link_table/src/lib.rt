@@ -9,6 +9,3 @@ mod table;
 pub use link::Link;
 pub use piles::{Envelope, Pile};
 pub use table::LinkTable;
-
-#[cfg(test)]
-mod tests;

@@ -5,6 +5,3 @@ mod collectors;
 pub mod laws;
 
 pub use collectors::NodeCollectors;
-
-#[cfg(test)]
-mod tests;

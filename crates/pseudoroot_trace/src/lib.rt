@@ -10,6 +10,3 @@ mod traced;
 pub use marks::{Marks, mark, mark_rounds};
 pub use trace::Trace;
 pub use traced::TracedGraph;
-
-#[cfg(test)]
-mod tests;

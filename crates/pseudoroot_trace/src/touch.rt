@@ -95,7 +95,7 @@ fn touch_window(kept: &mut KeptMarks, graph: &ShadowGraph, places: u32, window: 
     touch_targets(kept, graph, places, carried);
 }
 
-/// Whom the bulletin touches is touched. It takes no memory. Linear time in the number of rows, on average.
+/// Whom the bulletin touches is touched. It takes no memory. Linear time in the number of rows.
 pub fn touch_rows(kept: &mut KeptMarks, graph: &ShadowGraph, places: u32, b: &Bulletin)
     requires { places ≤ length kept.old.supports }
     ensures touches { TouchesMore places kept.old kept.new }

@@ -73,7 +73,7 @@ impl TracedGraph {
 
     /// The bulletin of the node, the next one of its stream, is folded, as `ShadowGraph::fold` says. The places that it touches
     /// are touched; where a node is newly lost, the next sweep marks anew. After `NoMemory` all is as before. Beside the fold it
-    /// takes linear time in the number of rows, on average.
+    /// takes linear time in the number of rows.
     pub fn fold(&mut self, origin: NodeId, b: &Bulletin) -> Result<(), NoMemory>
         requires of_origin { origin_of b.now ≡ origin }
         requires in_range { origin < self.old.graph.finals.nodes }
@@ -97,8 +97,7 @@ impl TracedGraph {
         Ok(())
     }
 
-    /// The actor, which was named, is dropped, as `ShadowGraph::drop_actor` says, and its place touched. Constant time on
-    /// average.
+    /// The actor, which was named, is dropped, as `ShadowGraph::drop_actor` says, and its place touched. Constant time.
     pub fn drop_actor(&mut self, actor: ActorId)
         requires { is_named self.old.graph.shadows.names actor ≡ true }
         ensures drops { Drops actor self.old.graph self.new.graph }
@@ -115,7 +114,7 @@ impl TracedGraph {
     /// fallen. The next sweep marks anew, unless `keep_marks` is called before. After `NoMemory`, which comes only where places
     /// are new, all marks are as before. Where nothing was folded or dropped since the last sweep it takes constant time; else
     /// time in proportion to the touched and the new places, to the places whose marks hung on theirs, and to the edges of all
-    /// these, on average. Where it marks anew, linear time in the graph.
+    /// these. Where it marks anew, linear time in the graph.
     pub fn sweep(&mut self) -> Result<(), NoMemory>
         ensures ok { OnOk result (IsSweptGraph self.old self.new) }
         ensures stale { OnOk result (self.new.is_stale ≡ true) }
@@ -150,7 +149,7 @@ impl TracedGraph {
         self.kept.pop_fallen()
     }
 
-    /// Whether the last sweep left the actor marked. Constant time on average.
+    /// Whether the last sweep left the actor marked. Constant time.
     pub fn is_marked(&self, actor: ActorId) -> bool
         ensures { result ≡ is_marked_in self.now actor }
     {

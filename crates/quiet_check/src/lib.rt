@@ -15,6 +15,3 @@ mod streams;
 
 pub use quiescence::is_quiescent;
 pub use quiet_points::is_quiet_point;
-
-#[cfg(test)]
-mod tests;

@@ -14,6 +14,3 @@ mod waking;
 
 pub use fault::RunFault;
 pub use player::run;
-
-#[cfg(test)]
-mod tests;

@@ -10,6 +10,3 @@ mod threads;
 
 pub use fault::WorkersFault;
 pub use runs::{Finished, run};
-
-#[cfg(test)]
-mod tests;

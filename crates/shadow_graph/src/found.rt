@@ -22,7 +22,7 @@ pub fn shadow_of(shadows: &ShadowTable, actor: ActorId) -> Shadow
 }
 
 /// What is kept of the owner's references to the target, or of no edge where no row named the pair. At most 2 * 8 looks at edges,
-/// and where that does not tell, logarithmic time; on average.
+/// and where that does not tell, logarithmic time.
 pub fn edge_between(
     shadows: &ShadowTable,
     edges: &EdgeTable,

@@ -85,7 +85,7 @@ impl ShadowGraph {
 
     /// The bulletin of the node, the next one of its stream, is folded: where the graph stood for a fold, it stands for the
     /// fold with it. A Final that makes nodes lost takes back what they told and puts in what others admitted from them.
-    /// After `NoMemory` all is as before. On average and amortized, time in proportion to n log n for n rows, and logarithmic
+    /// After `NoMemory` all is as before. Amortized time in proportion to n log n for n rows, and logarithmic
     /// in the number of edges for each row and for each pair noted of the newly lost nodes.
     pub fn fold(&mut self, origin: NodeId, b: &Bulletin) -> Result<(), NoMemory>
         requires of_origin { origin_of b.now ≡ origin }
@@ -103,7 +103,7 @@ impl ShadowGraph {
     }
 
     /// The actor, which was named, is dropped: nothing of it is known from then on, and nobody's edge to it counts. The edges
-    /// that lead from it stay, and what is folded later is counted as ever. Constant time on average.
+    /// that lead from it stay, and what is folded later is counted as ever. Constant time.
     pub fn drop_actor(&mut self, actor: ActorId)
         requires { is_named self.old.shadows.names actor ≡ true }
         ensures drops { Drops actor self.old self.new }
@@ -121,8 +121,7 @@ impl ShadowGraph {
         self.shadows.place_count()
     }
 
-    /// The place of the actor, its number in the order of naming; None exactly where it was never named. Constant time on
-    /// average.
+    /// The place of the actor, its number in the order of naming; None exactly where it was never named. Constant time.
     pub fn place_of(&self, actor: ActorId) -> Option<u32>
         ensures place { IfSome result (λ place. place ≡ place_in self.now.shadows.names actor) }
         ensures within { IfSome result (λ place. place < length self.now.shadows.names) }
@@ -138,14 +137,14 @@ impl ShadowGraph {
         self.shadows.actor_at(place)
     }
 
-    /// Whether the actor was dropped. Constant time on average.
+    /// Whether the actor was dropped. Constant time.
     pub fn is_dropped(&self, actor: ActorId) -> bool
         ensures { result ≡ is_dropped self.now actor }
     {
         shadow_of(&self.shadows, actor).dropped
     }
 
-    /// Whether some folded bulletin named the actor, and it was not dropped. Constant time on average.
+    /// Whether some folded bulletin named the actor, and it was not dropped. Constant time.
     pub fn is_known(&self, actor: ActorId) -> bool
         ensures { result ≡ is_known self.now actor }
     {
@@ -153,36 +152,35 @@ impl ShadowGraph {
     }
 
     /// The flags (busy, root) of the actor's last own entry; None exactly where none is folded or the actor was dropped.
-    /// Constant time on average.
+    /// Constant time.
     pub fn flags(&self, actor: ActorId) -> Option<(bool, bool)>
         ensures { result ≡ (seen_shadow self.now actor).flags }
     {
         self.seen_shadow(actor).flags
     }
 
-    /// How many messages the actor took; 0 where it was dropped. Constant time on average.
+    /// How many messages the actor took; 0 where it was dropped. Constant time.
     pub fn received(&self, actor: ActorId) -> u64
         ensures { result ≡ (seen_shadow self.now actor).received }
     {
         self.seen_shadow(actor).received
     }
 
-    /// How many messages to the actor were told by Deltas of nodes that are not lost; 0 where it was dropped. Constant time on
-    /// average.
+    /// How many messages to the actor were told by Deltas of nodes that are not lost; 0 where it was dropped. Constant time.
     pub fn told(&self, actor: ActorId) -> u64
         ensures { result ≡ (seen_shadow self.now actor).told }
     {
         self.seen_shadow(actor).told
     }
 
-    /// How many messages to the actor were admitted from lost nodes; 0 where it was dropped. Constant time on average.
+    /// How many messages to the actor were admitted from lost nodes; 0 where it was dropped. Constant time.
     pub fn admitted(&self, actor: ActorId) -> u64
         ensures { result ≡ (seen_shadow self.now actor).admitted }
     {
         self.seen_shadow(actor).admitted
     }
 
-    /// The messages that the actor took, less those that were told and those that were admitted. Constant time on average.
+    /// The messages that the actor took, less those that were told and those that were admitted. Constant time.
     pub fn balance(&self, actor: ActorId) -> i64
         ensures { let s = seen_shadow self.now actor in result ≡ (pos s.received -ℤ pos s.told) -ℤ pos s.admitted }
     {
@@ -191,7 +189,7 @@ impl ShadowGraph {
     }
 
     /// The references to the target that the owner was given, less those that it released; 0 where the target was dropped.
-    /// At most 2 * 8 looks at edges, and where that does not tell, time logarithmic in their number; on average.
+    /// At most 2 * 8 looks at edges, and where that does not tell, time logarithmic in their number.
     pub fn edge(&self, owner: ActorId, target: ActorId) -> i64
         ensures { let e = seen_edge self.now owner target in result ≡ pos e.given -ℤ pos e.released }
     {
@@ -232,7 +230,7 @@ impl ShadowGraph {
         edge_between(&self.shadows, &self.edges, owner, target)
     }
 
-    /// The Delta is taken in. After `NoMemory` all is as before. On average and amortized, time in proportion to n log n for n
+    /// The Delta is taken in. After `NoMemory` all is as before. Amortized time in proportion to n log n for n
     /// rows, and logarithmic in the number of edges for each.
     fn take_delta(&mut self, delta: &Delta) -> Result<(), NoMemory>
         requires in_range { delta.now.node < 16 }
@@ -261,7 +259,7 @@ impl ShadowGraph {
         }
     }
 
-    /// The window is taken in. After `NoMemory` all is as before. On average and amortized, time in proportion to n log n for n
+    /// The window is taken in. After `NoMemory` all is as before. Amortized time in proportion to n log n for n
     /// rows, and logarithmic in the number of edges for each.
     fn take_window(&mut self, window: &Window) -> Result<(), NoMemory>
         requires in_range { window.now.at < 16 }

@@ -56,7 +56,7 @@ fn prepare_delta(
 }
 
 /// The rows of the Delta are counted and noted, its sends and created pairs only where they count. After `NoMemory` all that
-/// is told of actors and pairs is as before. On average and amortized, time in proportion to n log n for n rows, and logarithmic
+/// is told of actors and pairs is as before. Amortized time in proportion to n log n for n rows, and logarithmic
 /// in the number of edges for each.
 pub fn add_delta(
     alloc: Global,

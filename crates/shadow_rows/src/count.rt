@@ -13,7 +13,7 @@ use edge_table::EdgeTable;
 use shadow_table::ShadowTable;
 
 /// Where it counts, the messages of the rows are told and the references are given, along the edges with these numbers. Linear
-/// time in the number of rows, on average.
+/// time in the number of rows.
 pub fn count_told(
     shadows: &mut ShadowTable,
     edges: &mut EdgeTable,
@@ -37,7 +37,7 @@ pub fn count_told(
 }
 
 /// Where it counts, the messages of the rows are admitted and the references are given, along the edges with these numbers.
-/// Linear time in the number of rows, on average.
+/// Linear time in the number of rows.
 pub fn count_admitted(
     shadows: &mut ShadowTable,
     edges: &mut EdgeTable,

@@ -12,7 +12,7 @@ use edge_table::EdgeTable;
 use shadow_table::ShadowTable;
 
 /// The number of the edge from the owner to the target; None exactly where there is none. At most 2 * 8 looks at edges, and where
-/// that does not tell, logarithmic time; on average.
+/// that does not tell, logarithmic time.
 pub fn number_of(
     shadows: &ShadowTable,
     edges: &EdgeTable,

@@ -22,7 +22,7 @@ pub struct RowNumbers {
 }
 
 /// The edge between the actors is there, and this is its number. After `NoMemory` all is as before. At most 2 * 8 looks at edges,
-/// and where that does not tell, logarithmic time; amortized and on average.
+/// and where that does not tell, logarithmic time; amortized.
 fn add_pair(
     edges: &mut EdgeTable,
     shadows: &ShadowTable,
@@ -63,8 +63,7 @@ fn place_after(shadows: &ShadowTable, last: Option<(ActorId, u32)>, actor: Actor
 }
 
 /// The edges between the actors of the rows are there, and these are their numbers. After `NoMemory` some of them may be. For
-/// each row at most 2 * 8 looks at edges, and where that does not tell, time logarithmic in their number; amortized and on
-/// average.
+/// each row at most 2 * 8 looks at edges, and where that does not tell, time logarithmic in their number; amortized.
 pub fn add_pairs(
     alloc: Global,
     edges: &mut EdgeTable,
@@ -137,7 +136,7 @@ fn add_names(
 }
 
 /// The actors that the rows name are named, in the order of the rows, and the pairs of the rows are there; the answer has the
-/// numbers of their edges. After `NoMemory` some of them may be there. On average, time in proportion to the number of rows, and
+/// numbers of their edges. After `NoMemory` some of them may be there. Time in proportion to the number of rows, and
 /// logarithmic in the number of edges for each.
 pub fn grow(
     alloc: Global,

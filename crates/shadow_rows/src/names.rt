@@ -9,8 +9,7 @@ use history_model::StateRow;
 use shadow_table::ShadowTable;
 use std::alloc::Global;
 
-/// The actors that the rows name and the table does not, as often as the rows do, in their order. Linear time in the number of rows,
-/// on average.
+/// The actors that the rows name and the table does not, as often as the rows do, in their order. Linear time in the number of rows.
 pub fn new_names(
     alloc: Global,
     shadows: &ShadowTable,
@@ -78,7 +77,7 @@ fn push_pairs(
     Ok(())
 }
 
-/// The actor comes last, unless the table names it. Amortized constant time, on average.
+/// The actor comes last, unless the table names it. Amortized constant time.
 fn push_new(names: &mut Vec<ActorId>, shadows: &ShadowTable, actor: ActorId) -> Result<(), NoMemory>
     ensures { OnOk result (names.new.items ≡ names.old.items ++ unnamed shadows.now.names (actor ∷ [])) }
 {

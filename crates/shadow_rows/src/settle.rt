@@ -55,7 +55,7 @@ fn put_in_row(shadows: &mut ShadowTable, edges: &mut EdgeTable, row: &Correction
     edges::give(shadows, edges, owner, row.target, row.admitted);
 }
 
-/// What the rows say was told is taken back. For each row time logarithmic in the number of edges, on average.
+/// What the rows say was told is taken back. For each row time logarithmic in the number of edges.
 fn take_back_all(shadows: &mut ShadowTable, edges: &mut EdgeTable, rows: &[Correction])
     requires tabled { AreTabled shadows.old.names edges.old }
     requires covered { AllByRecursion (λ r. IsCovered shadows.old.names edges.old.pairs r.owner r.target) rows.now }
@@ -67,7 +67,7 @@ fn take_back_all(shadows: &mut ShadowTable, edges: &mut EdgeTable, rows: &[Corre
     }
 }
 
-/// What the rows say was admitted is put in. For each row time logarithmic in the number of edges, on average.
+/// What the rows say was admitted is put in. For each row time logarithmic in the number of edges.
 fn put_in_all(shadows: &mut ShadowTable, edges: &mut EdgeTable, rows: &[Correction])
     requires tabled { AreTabled shadows.old.names edges.old }
     requires covered { AllByRecursion (λ r. IsCovered shadows.old.names edges.old.pairs r.owner r.target) rows.now }
@@ -82,7 +82,7 @@ fn put_in_all(shadows: &mut ShadowTable, edges: &mut EdgeTable, rows: &[Correcti
 }
 
 /// The node is lost: what it told is taken back, and what others admitted from it is put in. For each row noted of the node time
-/// logarithmic in the number of edges, on average.
+/// logarithmic in the number of edges.
 fn settle_node(shadows: &mut ShadowTable, edges: &mut EdgeTable, log: &UndoLog, node: NodeId)
     requires tabled { AreTabled shadows.old.names edges.old }
     requires covered { IsLogCovered shadows.old edges.old log.now }
@@ -98,7 +98,7 @@ fn settle_node(shadows: &mut ShadowTable, edges: &mut EdgeTable, log: &UndoLog, 
 }
 
 /// Each node that is lost now and was not before is settled. For each row noted of these nodes time logarithmic in the number of
-/// edges, on average.
+/// edges.
 pub fn settle_lost(
     shadows: &mut ShadowTable,
     edges: &mut EdgeTable,

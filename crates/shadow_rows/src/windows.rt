@@ -52,8 +52,8 @@ fn prepare_window(
 }
 
 /// The rows of the window are counted and noted; its messages and carried pairs count where `counts` says so, which is where
-/// the node from which they were admitted is lost. After `NoMemory` all that is told of actors and pairs is as before. On average
-/// and amortized, time in proportion to n log n for n rows, and logarithmic in the number of edges for each.
+/// the node from which they were admitted is lost. After `NoMemory` all that is told of actors and pairs is as before.
+/// Amortized time in proportion to n log n for n rows, and logarithmic in the number of edges for each.
 pub fn add_window(
     alloc: Global,
     shadows: &mut ShadowTable,

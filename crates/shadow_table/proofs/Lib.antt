@@ -2,3 +2,4 @@ pub mod KeyedLemmas
 pub mod RowLemmas
 pub mod ShadowLemmas
 pub mod NameLemmas
+pub mod NumberLemmas

@@ -7,7 +7,7 @@ use Rattle.crgc_ids.specs.Actor.{Actor, same_actor}
 use Rattle.crgc_ids.proofs.ActorLaws.{same_actor-decides}
 use Rattle.shadow_table.specs.Shadows.{Shadows, blank, is_named, with_name, with_names}
 
-or-false : (b : Bool) → (b || false) ≡ b
+pub or-false : (b : Bool) → (b || false) ≡ b
 or-false true = refl
 or-false false = refl
 

@@ -1,15 +1,16 @@
 //! Shadows by actor and by place.
-ghost use Rattle.std.specs.Prelude.{◌≡◌, ◌+◌, ◌<◌, ◌≤◌, ◌^◌, true, IsTrue, OnErr, OnOk, IfSome, length, map, slice_get, slice_index_or, take};
+ghost use Rattle.std.specs.Prelude.{◌≡◌, ◌+◌, ◌-◌, ◌<◌, ◌≤◌, ◌^◌, true, IsTrue, OnErr, OnOk, IfSome, length, map, slice_get, slice_index_or, take, vec_capacity, vec_len};
 ghost use Rattle.std.specs.Option.{is_some};
 ghost use Rattle.std.specs.List.{AllByRecursion, IsDistinct};
 ghost use Rattle.crgc_ids.specs.Actor.{Actor, same_actor};
 ghost use Rattle.history_model.specs.Ledgers.{actor_total, received_total};
+ghost use Rattle.shadow_table.specs.Numbers.{HasRoomFor, number_of};
 ghost use Rattle.shadow_table.specs.Shadows.{ChangesShadow, ChangesShadows, ExtendsShadows, as_dropped, blank, dropped_count, first_of, is_named, no_shadows};
 ghost use Rattle.shadow_table.specs.Shadows.{place_in, shadow_at, with_admitted, with_name, with_names, with_state, with_states, with_told, without_told};
 
+use crate::numbers::ActorNumbers;
 use crgc_ids::{ActorCount, ActorId, NoMemory, NodeId};
 use history_model::StateRow;
-use indexmap::IndexSet;
 use std::alloc::Global;
 use std::marker::Model;
 
@@ -24,11 +25,12 @@ pub struct Shadow {
     pub dropped: bool,
 }
 
-/// The shadows of the actors that were named, in the order of naming: an actor's number in it is its place. Contracts see
-/// the actors and the shadows.
+/// The shadows of the actors that were named, in the order of naming: an actor's number in it is its place. It takes four bytes for
+/// each serial of a node up to the greatest that was named. Contracts see the actors and the shadows.
 #[derive(Drop)]
 pub struct ShadowTable {
-    names: IndexSet<ActorId>,
+    names: Vec<ActorId>,
+    numbers: ActorNumbers,
     shadows: Vec<Shadow>,
     dropped: usize,
 }
@@ -37,14 +39,15 @@ impl Model for ShadowTable {
     ghost use Rattle.std.specs.Prelude.{◌≡◌, ◌<◌, ◌^◌, length};
     ghost use Rattle.std.specs.List.{IsDistinct};
     ghost use Rattle.crgc_ids.specs.Actor.{same_actor};
+    ghost use Rattle.shadow_table.specs.Numbers.{AreOfNames};
     ghost use Rattle.shadow_table.specs.Shadows.{Shadows, dropped_count};
 
     ghost Value = { Shadows };
 
-    ghost view = { λ t. record { names = t.names.keys; shadows = t.shadows.items } };
+    ghost view = { λ t. record { names = t.names.items; shadows = t.shadows.items } };
 
-    ghost invariant = { λ t. (length t.shadows.items ≡ length t.names.keys) × (length t.shadows.items < 2 ^ 32)
-        × IsDistinct same_actor t.names.keys × (t.dropped ≡ dropped_count t.shadows.items) };
+    ghost invariant = { λ t. (length t.shadows.items ≡ length t.names.items) × (length t.shadows.items < 2 ^ 32)
+        × IsDistinct same_actor t.names.items × AreOfNames t.numbers t.names.items × (t.dropped ≡ dropped_count t.shadows.items) };
 }
 
 impl ShadowTable {
@@ -53,7 +56,8 @@ impl ShadowTable {
         ensures { result ≡ no_shadows }
     {
         ShadowTable {
-            names: IndexSet::new(alloc),
+            names: Vec::new(alloc),
+            numbers: ActorNumbers::new(alloc),
             shadows: Vec::new(alloc),
             dropped: 0,
         }
@@ -76,15 +80,15 @@ impl ShadowTable {
         self.dropped
     }
 
-    /// The place of the actor; None exactly where it was not named. Constant time on average.
+    /// The place of the actor; None exactly where it was not named. Constant time.
     pub fn place_of(&self, actor: ActorId) -> Option<u32>
         ensures place { IfSome result (λ place. place ≡ place_in self.now.names actor) }
         ensures within { IfSome result (λ place. place < length self.now.names) }
         ensures found { is_some result ≡ is_named self.now.names actor }
     {
-        match self.names.get_index_of(&actor) {
-            Some(place) => Some(place as u32),
-            None => None,
+        match self.numbers.at(actor) {
+            0 => None,
+            number => Some(number - 1),
         }
     }
 
@@ -92,7 +96,7 @@ impl ShadowTable {
     pub fn actor_at(&self, place: u32) -> Option<ActorId>
         ensures { result ≡ slice_get self.now.names place }
     {
-        self.names.get_index(place as usize).copied()
+        self.names.get(place as usize).copied()
     }
 
     /// The shadow at the place.
@@ -109,7 +113,7 @@ impl ShadowTable {
         ensures place { result ≡ place_in self.now.names actor }
         ensures within { result < length self.now.names }
     {
-        self.names.get_index_of(&actor).unwrap()
+        self.place_of(actor).unwrap() as usize
     }
 
     /// So many more messages to the actor are told.
@@ -162,7 +166,7 @@ impl ShadowTable {
         self.shadows[place] = with_state(node, row, self.shadows[place]);
     }
 
-    /// The messages that the rows count are told. Linear time in the number of rows, on average.
+    /// The messages that the rows count are told. Linear time in the number of rows.
     pub fn tell_all(&mut self, rows: &[ActorCount])
         requires named { AllByRecursion (λ r. is_named self.old.names r.actor ≡ true) rows.now }
         requires fits { (a : Actor) → (shadow_at self.old a).told + actor_total a rows.now < 2 ^ 64 }
@@ -173,7 +177,7 @@ impl ShadowTable {
         }
     }
 
-    /// The messages that the rows count are admitted. Linear time in the number of rows, on average.
+    /// The messages that the rows count are admitted. Linear time in the number of rows.
     pub fn admit_all(&mut self, rows: &[ActorCount])
         requires named { AllByRecursion (λ r. is_named self.old.names r.actor ≡ true) rows.now }
         requires fits { (a : Actor) → (shadow_at self.old a).admitted + actor_total a rows.now < 2 ^ 64 }
@@ -185,7 +189,7 @@ impl ShadowTable {
     }
 
     /// The states that the node tells: messages taken, and of the node's own actors the flags, of which the last stand. Linear
-    /// time in the number of rows, on average.
+    /// time in the number of rows.
     pub fn note_states(&mut self, node: NodeId, rows: &[StateRow])
         requires named { AllByRecursion (λ r. is_named self.old.names r.actor ≡ true) rows.now }
         requires fits { (a : Actor) → (shadow_at self.old a).received + received_total a rows.now < 2 ^ 64 }
@@ -197,24 +201,23 @@ impl ShadowTable {
     }
 
     /// The actor is named, if it was not: its place is then the last. After `NoMemory`, which comes too where there are
-    /// 2^32 - 1 places, all is as before. Amortized constant time, on average.
+    /// 2^32 - 1 places, all is as before. Amortized constant time, where the serials of a node come in their order.
     pub fn name(&mut self, actor: ActorId) -> Result<(), NoMemory>
         ensures ok { OnOk result (self.new ≡ with_name self.old actor) }
         ensures err { OnErr result (self.new ≡ self.old) }
         ensures long { length self.old.shadows ≡ length self.old.names }
     {
-        if self.names.contains(&actor) {
+        if self.numbers.at(actor) > 0 {
             return Ok(());
         }
         if self.shadows.len() >= 4_294_967_295 {
             return Err(NoMemory);
         }
-        if self.shadows.reserve(1).is_err() {
+        if reserve(&mut self.names, &mut self.numbers, &mut self.shadows, actor).is_err() {
             return Err(NoMemory);
         }
-        if self.names.insert(actor).is_err() {
-            return Err(NoMemory);
-        }
+        self.numbers.set(actor, self.names.len() as u32 + 1);
+        self.names.push_reserved(actor);
         self.shadows.push_reserved(Shadow {
             received: 0,
             told: 0,
@@ -225,7 +228,7 @@ impl ShadowTable {
         Ok(())
     }
 
-    /// The actors are named, one after another. After `NoMemory` some of them may be. Linear time in their number, on average.
+    /// The actors are named, one after another. After `NoMemory` some of them may be. The time of `name` for each.
     pub fn name_all(&mut self, actors: &[ActorId]) -> Result<(), NoMemory>
         ensures ok { OnOk result (self.new ≡ with_names self.old actors.now) }
         ensures extends { ExtendsShadows self.old self.new }
@@ -240,9 +243,21 @@ impl ShadowTable {
     pub fn cut_back(&mut self, places: u32)
         ensures { self.new ≡ first_of places self.old }
     {
-        self.dropped -= self.dropped_from(places as usize);
-        self.names.truncate(places as usize);
-        self.shadows.truncate(places as usize);
+        while self.place_count() > places {
+            self.forget_last();
+        }
+    }
+
+    /// The last place is taken away. Constant time.
+    fn forget_last(&mut self)
+        requires { 0 < length self.old.names }
+        ensures { self.new ≡ first_of (length self.old.names - 1) self.old }
+    {
+        let last = self.shadows.len() - 1;
+        self.dropped -= self.dropped_from(last);
+        self.numbers.set(self.names[last], 0);
+        self.names.truncate(last);
+        self.shadows.truncate(last);
     }
 
     /// How many actors at the place and after it were dropped. Linear time in the number of these places.
@@ -255,6 +270,29 @@ impl ShadowTable {
         }
         count
     }
+}
+
+/// There is room for one place more, that of the actor. After `NoMemory` all is as before.
+fn reserve(
+    names: &mut Vec<ActorId>,
+    numbers: &mut ActorNumbers,
+    shadows: &mut Vec<Shadow>,
+    actor: ActorId,
+) -> Result<(), NoMemory>
+    ensures names { names.new.items ≡ names.old.items }
+    ensures shadows { shadows.new.items ≡ shadows.old.items }
+    ensures numbers { (a : Actor) → number_of numbers.new a ≡ number_of numbers.old a }
+    ensures more_names { OnOk result (vec_len names.new < vec_capacity names.new) }
+    ensures more_shadows { OnOk result (vec_len shadows.new < vec_capacity shadows.new) }
+    ensures number { OnOk result (HasRoomFor numbers.new actor) }
+{
+    if names.reserve(1).is_err() {
+        return Err(NoMemory);
+    }
+    if shadows.reserve(1).is_err() {
+        return Err(NoMemory);
+    }
+    numbers.reserve(actor)
 }
 
 /// The shadow with a node's state row of its actor.

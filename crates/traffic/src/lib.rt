@@ -7,6 +7,3 @@ mod ready_changes;
 mod traffic;
 
 pub use traffic::Traffic;
-
-#[cfg(test)]
-mod tests;

@@ -20,8 +20,3 @@ mod world;
 
 pub use applied::{Applied, Told};
 pub use world::World;
-
-#[cfg(test)]
-mod apply_tests;
-#[cfg(test)]
-mod tests;

@@ -1,6 +1,8 @@
 //! Rows that count what a node told and what others admitted from it.
 ghost use Rattle.std.specs.Prelude.{◌≡◌, ◌+◌, ◌<◌, ◌&&◌, if◌then◌else◌, min};
 ghost use Rattle.std.specs.List.{AllByRecursion};
+ghost use Rattle.std.specs.List.Sorted.{IsPermutation, IsSortedBy};
+ghost use Rattle.std.specs.Ordering.{is_lt};
 ghost use Rattle.crgc_ids.specs.Actor.{same_actor};
 ghost use Rattle.crgc_ids.specs.Rising.{IsRising};
 ghost use Rattle.undo_log.specs.Keys.{IsKeyBelow, same_owner};
@@ -42,15 +44,27 @@ pub enum Side {
     Admitted,
 }
 
-/// The rows are sorted, and each takes in the later ones of its key. Time in proportion to n log n, without memory.
+/// The rows are sorted, and each takes in the later ones of its key. Time in proportion to n log m for n rows in m stretches that
+/// rise, as those that one bulletin notes do; where there is no memory for that, to n log n.
 pub fn add_up(rows: &mut Vec<Correction>)
     requires { HaveRoom rows.old.items }
     ensures rise { IsRising (λ r s. IsKeyBelow (r.owner, r.target) (s.owner, s.target)) rows.new.items }
     ensures stand { AllByRecursion (λ r. 0 < r.told + r.admitted) rows.new.items }
     ensures totals { HaveTotalsOf rows.old.items rows.new.items }
 {
-    rows.sort_unstable_by(|r, s| compare_keys(r, s));
+    sort(rows);
     rows.dedup_by(|next, last| take_in(last, next));
+}
+
+/// The rows are sorted by their keys.
+fn sort(rows: &mut Vec<Correction>)
+    ensures permutation { IsPermutation rows.old.items rows.new.items }
+    ensures sorted { IsSortedBy (λ r s. is_lt (compare_keys (r.owner, r.target) (s.owner, s.target))) rows.new.items }
+{
+    match rows.sort_by(|r, s| compare_keys(r, s)) {
+        Ok(()) => {}
+        Err(_) => rows.sort_unstable_by(|r, s| compare_keys(r, s)),
+    }
 }
 
 /// Rows by owner, no owner first, then by target.

@@ -7,6 +7,3 @@ mod undo_log;
 
 pub use corrections::{Correction, Corrections};
 pub use undo_log::UndoLog;
-
-#[cfg(test)]
-mod tests;

@@ -30,7 +30,21 @@ at c n there =
 
 pub number_near-requires : goal.number_near-requires
 number_near-requires c = λ n h.
-    let within = list-within owner_of refl c.self.inside.edges.items c.args.owner_place c.from-from.result.now (from_is (goal.at.number_near-requires c).After-from-from) n h in
+    let within = list-within target_of refl c.self.inside.edges.items c.args.target_place c.to-to.result.now (to_is (goal.at.number_near-requires c).After-to-to) n h in
+    let long = c.self.invariant.0.long in
+    omega arith
+
+pub returns-then-to-le-NEAR-clause-number : goal.returns-then-to-le-NEAR-clause-number
+returns-then-to-le-NEAR-clause-number c =
+    let from = (goal.at.returns-then-to-le-NEAR-clause-number c).After-from-from in
+    let to = (goal.at.returns-then-to-le-NEAR-clause-number c).After-to-to in
+    rw (← c.self.view_is) (map_is_right _ c.number_near.result c.number_near.ensures.number (λ n there.
+    let is = at from n there in
+    c.number_near.ensures.near n there (list-first target_of refl c.self.inside.edges.items c.args.target_place c.to-to.result.now (to_is to) n is.0 is.2 c.if-to-le-NEAR.true)))
+
+pub number_near-requires-2 : goal.number_near-requires-2
+number_near-requires-2 c = λ n h.
+    let within = list-within owner_of refl c.self.inside.edges.items c.args.owner_place c.from-from.result.now (from_is (goal.at.number_near-requires-2 c).After-from-from) n h in
     let long = c.self.invariant.0.long in
     omega arith
 
@@ -39,21 +53,13 @@ returns-then-from-le-NEAR-clause-number c =
     let from = (goal.at.returns-then-from-le-NEAR-clause-number c).After-from-from in
     rw (← c.self.view_is) (sym (none_there _ (λ n there.
     let is = at from n there in
-    c.in_default.not-Some n (c.number_near.ensures.near n there (list-first owner_of refl c.self.inside.edges.items c.args.owner_place c.from-from.result.now (from_is from) n is.0 is.1 c.if-from-le-NEAR.true)))))
+    c.in_default.not-Some n (c.number_near-2.ensures.near n there (list-first owner_of refl c.self.inside.edges.items c.args.owner_place c.from-from.result.now (from_is from) n is.0 is.1 c.if-from-le-NEAR.true)))))
 
-pub number_near-requires-2 : goal.number_near-requires-2
-number_near-requires-2 c = λ n h.
-    let within = list-within target_of refl c.self.inside.edges.items c.args.target_place c.to-to.result.now (to_is (goal.at.number_near-requires-2 c).After-to-to) n h in
+pub number_near-requires-3 : goal.number_near-requires-3
+number_near-requires-3 c = λ n h.
+    let within = list-within target_of refl c.self.inside.edges.items c.args.target_place c.to-to.result.now (to_is (goal.at.number_near-requires-3 c).After-to-to) n h in
     let long = c.self.invariant.0.long in
     omega arith
-
-pub returns-then-to-le-NEAR-clause-number : goal.returns-then-to-le-NEAR-clause-number
-returns-then-to-le-NEAR-clause-number c =
-    let from = (goal.at.returns-then-to-le-NEAR-clause-number c).After-from-from in
-    let to = (goal.at.returns-then-to-le-NEAR-clause-number c).After-to-to in
-    rw (← c.self.view_is) (sym (none_there _ (λ n there.
-    let is = at from n there in
-    c.in_default-number_near.not-Some n (c.number_near-2.ensures.near n there (list-first target_of refl c.self.inside.edges.items c.args.target_place c.to-to.result.now (to_is to) n is.0 is.2 c.if-to-le-NEAR.true)))))
 
 pub returns-clause-number : goal.returns-clause-number
 returns-clause-number c =
@@ -64,8 +70,8 @@ returns-clause-number c =
     let is = at from n there in
     elim (c.self.invariant.1 (c.args.owner, c.args.target) n there) [
       | inl near ↦ elim near [
-        | inl first ↦ absurd (c.in_default.not-Some n (c.number_near.ensures.near n there (list-near owner_of refl edges c.args.owner_place c.from-from.result.now (from_is from) n is.1 first)))
-        | inr first ↦ absurd (c.in_default-number_near.not-Some n (c.number_near-2.ensures.near n there (list-near target_of refl edges c.args.target_place c.to-to.result.now (to_is to) n is.2 first)))
+        | inl first ↦ absurd (c.in_default.not-Some n (c.number_near-2.ensures.near n there (list-near owner_of refl edges c.args.owner_place c.from-from.result.now (from_is from) n is.1 first)))
+        | inr first ↦ absurd (c.in_default-number_near.not-Some n (c.number_near-3.ensures.near n there (list-near target_of refl edges c.args.target_place c.to-to.result.now (to_is to) n is.2 first)))
       ]
       | inr has ↦ c.number_mapped.ensures.value ∙ has
     ]))

@@ -5,4 +5,4 @@ use Rattle.shadow_table.proofs.table.ShadowTable.drop_actor.Goals as goal
 
 pub returns : goal.returns
 returns c =
-    rw (← c.self.view_is) (shadow-changed c.self.inside.names.keys c.self.inside.shadows.items c.args.actor c.place-place.result c.index_mut.result.now _ (as_dropped) c.self.invariant.0 (search rules) (search rules) c.index_mut.ensures.value refl)
+    rw (← c.self.view_is) (shadow-changed c.self.inside.names.items c.self.inside.shadows.items c.args.actor c.place-place.result c.index_mut.result.now _ (as_dropped) c.self.invariant.0 (search rules) (search rules) c.index_mut.ensures.value refl)

@@ -1,0 +1,112 @@
+//! Edges between actors whose serials are their places.
+ghost use Rattle.std.specs.Prelude.{◌≡◌, IfOk};
+ghost use Rattle.crgc_ids.specs.Actor.{Actor};
+ghost use Rattle.edge_table.specs.Table.{HasEnds};
+
+use crgc_ids::{ActorId, NodeId};
+use edge_table::EdgeTable;
+use std::test::Fail;
+
+fn actor(serial: u32) -> Result<ActorId, Fail>
+    ensures { IfOk result (λ a. a.serial ≡ serial) }
+{
+    let node = NodeId::new(0).ok_or("node 0")?;
+    Ok(ActorId::new(node, serial).ok_or("a serial too large")?)
+}
+
+/// Adds the edge between the two actors, and returns its number.
+fn add(table: &mut EdgeTable, owner: u32, target: u32) -> Result<u32, Fail>
+    requires { (a b : Actor) → HasEnds table.old a b a.serial b.serial }
+    ensures { (a b : Actor) → HasEnds table.new a b a.serial b.serial }
+{
+    if owner >= table.place_count() || target >= table.place_count() {
+        return Err(Fail::from("no such place"));
+    }
+    let (from, to) = (actor(owner)?, actor(target)?);
+    if table.number_of(from, to, owner, target).is_some() {
+        return Err(Fail::from("an edge that is there"));
+    }
+    Ok(table.add(from, to, owner, target)?)
+}
+
+/// The number of the edge between the two actors.
+fn number(table: &EdgeTable, owner: u32, target: u32) -> Result<Option<u32>, Fail>
+    requires { (a b : Actor) → HasEnds table.now a b a.serial b.serial }
+{
+    if owner >= table.place_count() || target >= table.place_count() {
+        return Err(Fail::from("no such place"));
+    }
+    Ok(table.number_of(actor(owner)?, actor(target)?, owner, target))
+}
+
+/// Ten places, and edges from each to each.
+fn ten_by_ten(table: &mut EdgeTable) -> Result<(), Fail>
+    requires { (a b : Actor) → HasEnds table.old a b a.serial b.serial }
+    ensures { (a b : Actor) → HasEnds table.new a b a.serial b.serial }
+{
+    for _ in 0..10 {
+        table.add_place()?;
+    }
+    for number in 0..100 {
+        add(table, number / 10, number % 10)?;
+    }
+    Ok(())
+}
+
+#[test]
+fn each_edge_is_found_near_or_in_the_map(rt: HostRuntime) -> Result<(), Fail> {
+    let mut table = EdgeTable::new(rt.alloc());
+    ten_by_ten(&mut table)?;
+    for expected in 0..100 {
+        assert_eq!(rt;
+            number(&table, expected / 10, expected % 10)?,
+            Some(expected)
+        );
+    }
+    Ok(())
+}
+
+#[test]
+fn edges_are_listed_by_place(rt: HostRuntime) -> Result<(), Fail> {
+    let mut table = EdgeTable::new(rt.alloc());
+    table.add_place()?;
+    table.add_place()?;
+    table.add_place()?;
+    assert_eq!(rt; add(&mut table, 0, 1)?, 0);
+    assert_eq!(rt; add(&mut table, 2, 1)?, 1);
+    assert_eq!(rt; add(&mut table, 0, 0)?, 2);
+    assert_eq!(rt; number(&table, 2, 1)?, Some(1));
+    assert_eq!(rt; number(&table, 1, 2)?, None);
+    if table.place_count() == 3 {
+        assert_eq!(rt; table.edges_from(0), [0, 2].as_slice());
+        assert_eq!(rt; table.edges_to(1), [0, 1].as_slice());
+        assert_eq!(rt; table.edges_to(2), [].as_slice());
+    }
+    Ok(())
+}
+
+#[test]
+fn counts_change_and_growth_is_cut_back(rt: HostRuntime) -> Result<(), Fail> {
+    let mut table = EdgeTable::new(rt.alloc());
+    table.add_place()?;
+    table.remove_last_place();
+    assert_eq!(rt; table.place_count(), 0);
+    table.add_place()?;
+    let number = add(&mut table, 0, 0)?;
+    if number < table.edge_count() && table.edge(number).given == 0 {
+        table.give(number, 3);
+    }
+    if number < table.edge_count() && table.edge(number).given >= 1 {
+        table.take_back(number, 1);
+    }
+    if number < table.edge_count() && table.edge(number).released == 0 {
+        table.release(number, 4);
+    }
+    if number < table.edge_count() {
+        let edge = table.edge(number);
+        assert_eq!(rt; (edge.given, edge.released), (2, 4));
+        table.remove_last_edge();
+    }
+    assert_eq!(rt; (table.edge_count(), table.place_count()), (0, 1));
+    Ok(())
+}

@@ -1,5 +1,0 @@
-use Rattle.graph_wire.proofs.Room.{spellable-writable}
-use Rattle.graph_wire.proofs.tests.again.Goals as goal
-
-pub write-requires : goal.write-requires
-write-requires c = spellable-writable c.in-Ok.b c.in-Ok.ensures.found.0
