@@ -1,5 +1,5 @@
 //! A queue of messages for each actor.
-ghost use Rattle.std.specs.Prelude.{◌≡◌, ◌+◌, ◌-◌, [], ◌∷◌, ◌++◌, OnOk, OnErr, drop, length, slice_get};
+ghost use Rattle.std.specs.Prelude.{◌≡◌, ◌+◌, ◌-◌, [], ◌∷◌, ◌++◌, true, OnOk, OnErr, drop, length, slice_get};
 ghost use Rattle.std.specs.Option.{option_copied};
 ghost use Rattle.mailboxes.specs.Mail.{IsMailboxChange, mail_of, room_of};
 
@@ -85,7 +85,37 @@ impl Mailboxes {
         ensures first { result ≡ slice_get (mail_of self.old actor) 0 }
         ensures rest { IsMailboxChange self.old self.new actor (drop 1 (mail_of self.old actor)) (room_of self.old actor) }
     {
+        let first = self.pop_from(actor);
+        self.close_if_over(actor);
+        first
+    }
+
+    /// The same, whatever is left of the queue.
+    fn pop_from(&mut self, actor: ActorId) -> Option<RefList>
+        ensures first { result ≡ slice_get (mail_of self.old actor) 0 }
+        ensures rest { IsMailboxChange self.old self.new actor (drop 1 (mail_of self.old actor)) (room_of self.old actor) }
+    {
         self.queues.get_mut(&actor)?.pop()
+    }
+
+    /// A queue in which no message waits, and for which no room is reserved, is kept no longer.
+    fn close_if_over(&mut self, actor: ActorId)
+        ensures { IsMailboxChange self.old self.new actor (mail_of self.old actor) (room_of self.old actor) }
+    {
+        if self.is_over(actor) {
+            self.queues.remove(&actor);
+        }
+    }
+
+    /// Whether the actor has a queue in which no message waits, and for which no room is reserved.
+    fn is_over(&self, actor: ActorId) -> bool
+        ensures mail { result ≡ true → mail_of self.now actor ≡ [] }
+        ensures room { result ≡ true → room_of self.now actor ≡ 0 }
+    {
+        match self.queues.get(&actor) {
+            Some(queue) => queue.is_over(),
+            None => false,
+        }
     }
 
     /// How many messages to the actor wait. Logarithmic time in the number of actors.

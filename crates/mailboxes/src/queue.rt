@@ -1,5 +1,5 @@
 //! The messages that wait for one actor.
-ghost use Rattle.std.specs.Prelude.{◌≡◌, ◌+◌, ◌-◌, [], ◌∷◌, ◌++◌, OnOk, OnErr, drop, length, slice_get};
+ghost use Rattle.std.specs.Prelude.{◌≡◌, ◌+◌, ◌-◌, [], ◌∷◌, ◌++◌, true, OnOk, OnErr, drop, length, slice_get};
 ghost use Rattle.std.specs.Option.{option_copied};
 
 use crgc_ids::{NoMemory, RefList};
@@ -88,5 +88,12 @@ impl Queue {
         ensures { result ≡ length self.now.mail }
     {
         self.messages.len()
+    }
+
+    /// Whether no message waits, and no room is reserved.
+    pub fn is_over(&self) -> bool
+        ensures { result ≡ true → self.now ≡ record { mail = []; room = 0 } }
+    {
+        self.messages.is_empty() && self.reserved == 0
     }
 }

@@ -1,6 +1,6 @@
 use Rattle.std.proofs.Common.{rules}
 use Rattle.mailboxes.proofs.MailLemmas.{mailbox_change, mailbox_of-found}
-use Rattle.mailboxes.proofs.mailboxes.Mailboxes.pop.Goals as goal
+use Rattle.mailboxes.proofs.mailboxes.Mailboxes.pop_from.Goals as goal
 
 pub returns-clause-rest : goal.returns-clause-rest
 returns-clause-rest c =
