@@ -1,5 +1,5 @@
 //! Bulletins to bytes.
-ghost use Rattle.std.specs.Prelude.{◌≡◌, ◌<◌, ◌≤◌, ◌^◌, ◌++◌, ◌↔◌, [], length, slice_get, OnOk, IfOk, IsTrue};
+ghost use Rattle.std.specs.Prelude.{◌≡◌, ◌<◌, ◌≤◌, ◌^◌, ◌++◌, ◌↔◌, [], length, slice_get, OnOk, IfOk, IfSome, IsTrue};
 ghost use Rattle.byteorder.specs.Endian.{big_bytes};
 ghost use Rattle.crgc_ids.specs.Actor.{IsActorBelow};
 ghost use Rattle.crgc_ids.specs.Rising.{IsRising};
@@ -90,22 +90,35 @@ fn guess(table: &[ActorId], place: usize, actor: ActorId) -> usize {
     }
 }
 
-/// The index of an actor in a rising table. It is looked for where the serials let it be expected from a place, and right
-/// after that place, since a section's rows rise and so does the table; then it is found by its order.
+/// The index of an actor in a rising table, if it stands where the serials let it be expected from a place, or right after that
+/// place. Constant time.
+fn index_from(table: &[ActorId], place: usize, actor: ActorId) -> Option<usize>
+    requires { IsRising IsActorBelow table.now }
+    ensures value { IfSome result (λ i. i ≡ index_of table.now actor) }
+    ensures bound { IfSome result (λ i. i ≤ length table.now) }
+{
+    let expected = guess(table, place, actor);
+    if stands_at(table, expected, actor) {
+        return Some(expected);
+    }
+    let next = place.saturating_add(1);
+    if stands_at(table, next, actor) {
+        return Some(next);
+    }
+    None
+}
+
+/// The index of an actor in a rising table. It is looked for from a place, since a section's rows rise and so does the table;
+/// then it is found by its order.
 fn index_near(table: &[ActorId], place: usize, actor: ActorId) -> usize
     requires { IsRising IsActorBelow table.now }
     ensures value { result ≡ index_of table.now actor }
     ensures bound { result ≤ length table.now }
 {
-    let expected = guess(table, place, actor);
-    if stands_at(table, expected, actor) {
-        return expected;
+    match index_from(table, place, actor) {
+        Some(found) => found,
+        None => index(table, actor),
     }
-    let next = place.saturating_add(1);
-    if stands_at(table, next, actor) {
-        return next;
-    }
-    index(table, actor)
 }
 
 /// Puts an actor's index, which may be near a place, and answers it.
@@ -163,23 +176,54 @@ fn put_count(
     Ok(index)
 }
 
-/// Puts a pair, and answers its owner's index. The target may be near the owner.
+/// Where the next pair of a section is looked for: near the index of the last owner, and near that of the last target that was
+/// not near its owner.
+#[derive(Clone, Copy)]
+struct Near {
+    owner: usize,
+    target: usize,
+}
+
+/// Puts the index of a pair's target, which may be near that of its owner or of another target, and answers where the next
+/// target is looked for.
+fn put_target(
+    out: &mut Vec<u8>,
+    wide: bool,
+    table: &[ActorId],
+    near: Near,
+    target: ActorId,
+) -> Result<usize, NoMemory>
+    requires rises { IsRising IsActorBelow table.now }
+    requires room { length table.now < 256 ^ index_len wide }
+    ensures { OnOk result (out.new.items ≡ out.old.items ++ index_text wide table.now target) }
+{
+    if let Some(index) = index_from(table, near.owner, target) {
+        put_len(out, wide, index)?;
+        return Ok(near.target);
+    }
+    put_index(out, wide, table, near.target, target)
+}
+
+/// Puts a pair, and answers where the next one is looked for.
 fn put_pair(
     out: &mut Vec<u8>,
     wide: bool,
     table: &[ActorId],
-    near: usize,
+    near: Near,
     row: PairCount,
-) -> Result<usize, NoMemory>
+) -> Result<Near, NoMemory>
     requires rises { IsRising IsActorBelow table.now }
     requires room { length table.now < 256 ^ index_len wide }
-    ensures text { OnOk result (out.new.items ≡ out.old.items ++ pair_text wide table.now row) }
-    ensures index { IfOk result (λ i. i ≡ index_of table.now row.owner) }
+    ensures { OnOk result (out.new.items ≡ out.old.items ++ pair_text wide table.now row) }
 {
-    let index = put_index(out, wide, table, near, row.owner)?;
-    put_index(out, wide, table, index, row.target)?;
+    let owner = put_index(out, wide, table, near.owner, row.owner)?;
+    let at_owner = Near {
+        owner,
+        target: near.target,
+    };
+    let target = put_target(out, wide, table, at_owner, row.target)?;
     put_u32(out, row.count)?;
-    Ok(index)
+    Ok(Near { owner, target })
 }
 
 fn put_states(
@@ -232,7 +276,10 @@ fn put_pairs(
     ensures { OnOk result (out.new.items ≡ out.old.items ++ pairs_text wide table.now rows.now) }
 {
     put_u32(out, rows.len() as u32)?;
-    let mut near = 0;
+    let mut near = Near {
+        owner: 0,
+        target: 0,
+    };
     for pair in rows.iter().copied() {
         near = put_pair(out, wide, table, near, pair)?;
     }

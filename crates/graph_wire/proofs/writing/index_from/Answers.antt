@@ -1,7 +1,7 @@
 use Rattle.std.proofs.Common.{sym, arith}
 use Rattle.std.proofs.lemmas.Option.{slice_get_within}
 use Rattle.wire_grammar.proofs.Tables.{index_of-slice_get}
-use Rattle.graph_wire.proofs.writing.index_near.Goals as goal
+use Rattle.graph_wire.proofs.writing.index_from.Goals as goal
 
 pub returns-then-stands_at-clause-value : goal.returns-then-stands_at-clause-value
 returns-then-stands_at-clause-value c = sym (index_of-slice_get c.args.table.now c.guess-expected.result c.args.actor c.requires (c.stands_at.ensures.0 c.if-stands_at.true))
