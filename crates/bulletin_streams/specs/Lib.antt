@@ -1,3 +1,4 @@
 pub mod Keeping
 pub mod Standing
 pub mod StreamState
+pub mod Spelling

@@ -3,6 +3,7 @@
 
 pub mod laws;
 mod node_stream;
+mod stream_bulletin;
 mod streams;
 
 pub use streams::BulletinStreams;

@@ -5,12 +5,14 @@ ghost use Rattle.std.specs.Option.{option_copied};
 ghost use Rattle.history_model.specs.declared.records.Bulletin.TheVariants as bulletins;
 ghost use Rattle.history_model.specs.Ledgers.{CountFromOne, entries_ledger, entry_ledger};
 ghost use Rattle.history_model.specs.Tells.{IsOrdered};
+ghost use Rattle.bulletin_streams.specs.Spelling.{IsSpelling};
 ghost use Rattle.delta_graph.specs.Sums.{CountsFit, IsFaultOf, named_count};
 ghost use Rattle.bulletin_streams.specs.StreamState.{Appends, IsAlike, Publishes, Queues, StreamState, TakesBack, blank};
 ghost use Rattle.crgc_ids.specs.declared.limits.TheConstants.{MOST_NAMED};
 
 use crate::laws::{a_window_is_in_order, an_entry_counts_from_one};
-use crgc_ids::{NoMemory, NodeId};
+use crate::stream_bulletin::StreamBulletin;
+use crgc_ids::{NoMemory, NodeId, Octets};
 use delta_graph::{DeltaFault, delta_of};
 use history_model::{Bulletin, Entry, Window};
 use std::alloc::Global;
@@ -20,7 +22,7 @@ use std::marker::Model;
 #[derive(Drop)]
 pub struct NodeStream {
     entries: Vec<Entry>,
-    bulletins: Vec<Bulletin>,
+    bulletins: Vec<StreamBulletin>,
 }
 
 impl Model for NodeStream {
@@ -103,7 +105,11 @@ impl NodeStream {
     {
         let alloc = *self.entries.allocator();
         let delta = delta_of(alloc, node, &self.entries)?;
-        if self.bulletins.push(Bulletin::Delta(delta)).is_err() {
+        if self
+            .bulletins
+            .push(StreamBulletin::of(Bulletin::Delta(delta)))
+            .is_err()
+        {
             return Err(DeltaFault::NoMemory);
         }
         self.entries.clear();
@@ -130,7 +136,8 @@ impl NodeStream {
         ensures { Appends self.old self.new (bulletins.Window window) }
     {
         a_window_is_in_order(&window);
-        self.bulletins.push_reserved(Bulletin::Window(window));
+        self.bulletins
+            .push_reserved(StreamBulletin::of(Bulletin::Window(window)));
     }
 
     /// The Final comes last into the stream, for which there is room.
@@ -139,7 +146,8 @@ impl NodeStream {
         ensures { Appends self.old self.new (bulletins.Final window) }
     {
         a_window_is_in_order(&window);
-        self.bulletins.push_reserved(Bulletin::Final(window));
+        self.bulletins
+            .push_reserved(StreamBulletin::of(Bulletin::Final(window)));
     }
 
     /// How many entries wait.
@@ -161,6 +169,32 @@ impl NodeStream {
         ensures value { option_copied result ≡ slice_get self.now.bulletins number }
         ensures ordered { IfSome result (λ b. IsOrdered b.now) }
     {
-        self.bulletins.get(number)
+        Some(self.bulletins.get(number)?.bulletin())
+    }
+
+    /// The spelling of the bulletin with this number, from 0, if it is kept.
+    pub fn spelling(&self, number: usize) -> Option<&Octets>
+        ensures { IfSome result (λ bytes. IfSome (slice_get self.now.bulletins number) (λ b. IsSpelling b bytes.now)) }
+    {
+        self.bulletins.get(number)?.spelling()
+    }
+
+    /// These bytes, the spelling of the bulletin with this number, if there is one, are kept.
+    pub fn keep_spelling(&mut self, number: usize, bytes: Octets)
+        requires { IfSome (slice_get self.old.bulletins number) (λ b. IsSpelling b bytes) }
+        ensures { self.new ≡ self.old }
+    {
+        if let Some(bulletin) = self.bulletins.get_mut(number) {
+            bulletin.keep(bytes);
+        }
+    }
+
+    /// The spelling of the bulletin with this number is kept no longer.
+    pub fn forget_spelling(&mut self, number: usize)
+        ensures { self.new ≡ self.old }
+    {
+        if let Some(bulletin) = self.bulletins.get_mut(number) {
+            bulletin.forget();
+        }
     }
 }

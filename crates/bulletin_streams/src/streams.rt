@@ -9,6 +9,7 @@ ghost use Rattle.history_model.specs.Cluster.{Cluster};
 ghost use Rattle.history_model.specs.Ledgers.{entries_ledger};
 ghost use Rattle.history_model.specs.Streams.{is_blank, queue, stream};
 ghost use Rattle.history_model.specs.Tells.{IsOrdered};
+ghost use Rattle.bulletin_streams.specs.Spelling.{IsSpelling};
 ghost use Rattle.delta_graph.specs.declared.fault.DeltaFault.TheVariants.{TableFull};
 ghost use Rattle.delta_graph.specs.Sums.{CountsFit, IsFaultOf, named_count};
 ghost use Rattle.bulletin_streams.specs.Standing.{AreStreamsOf, SaysLimit, StandAfter, TellsFlush, TellsLink, TellsNumber, queued};
@@ -16,7 +17,7 @@ ghost use Rattle.bulletin_streams.specs.StreamState.{Appends, AreAlike, ChangesA
 ghost use Rattle.crgc_ids.specs.declared.limits.TheConstants.{MOST_NAMED};
 
 use crate::node_stream::NodeStream;
-use crgc_ids::{NoMemory, NodeId};
+use crgc_ids::{NoMemory, NodeId, Octets};
 use delta_graph::DeltaFault;
 use history_model::{Bulletin, Entry, Window};
 use std::alloc::Global;
@@ -168,5 +169,32 @@ impl BulletinStreams {
         ensures none { (cl : Cluster) (h : List Event) → AreStreamsOf cl h self.now → IfNone result (length (stream cl origin h) ≤ number) }
     {
         self.nodes[origin.get() as usize].bulletin(number as usize)
+    }
+
+    /// The spelling of the bulletin with this number of the origin's stream, if it is kept. Constant time.
+    pub fn spelling(&self, origin: NodeId, number: u32) -> Option<&Octets>
+        ensures { IfSome result (λ bytes. IfSome (slice_get (stream_at self.now origin).bulletins number) (λ b. IsSpelling b bytes.now)) }
+    {
+        self.nodes[origin.get() as usize].spelling(number as usize)
+    }
+
+    /// These bytes, the spelling of the bulletin with this number of the origin's stream, if there is one, are kept. Constant time.
+    pub fn keep_spelling(&mut self, origin: NodeId, number: u32, bytes: Octets)
+        requires { IfSome (slice_get (stream_at self.old origin).bulletins number) (λ b. IsSpelling b bytes) }
+        ensures { self.new ≡ self.old }
+    {
+        self.nodes[origin.get() as usize].keep_spelling(number as usize, bytes);
+    }
+
+    /// The spelling of the bulletin with this number of the origin's stream is kept no longer. Constant time.
+    pub fn forget_spelling(&mut self, origin: NodeId, number: u32)
+        ensures { self.new ≡ self.old }
+    {
+        self.nodes[origin.get() as usize].forget_spelling(number as usize);
+    }
+
+    /// The allocator.
+    pub fn alloc(&self) -> Global {
+        *self.nodes.allocator()
     }
 }

@@ -130,7 +130,7 @@ impl Course {
         }
         match was_done(self.world.apply(&Event::Hand { to, origin, number })) {
             Ok(told) => {
-                take_in(&mut self.collectors, &self.world, to, origin, number);
+                take_in(&mut self.collectors, &mut self.world, to, origin, number);
                 Ok(told)
             }
             Err(halt) => Err(halt),
@@ -266,23 +266,46 @@ fn was_done(applied: Result<Applied, NoMemory>) -> Result<Told, Halt>
 }
 
 /// The collector of a node takes the bulletin that the world's last event hands to it; where memory runs out, the collectors are
-/// given up.
+/// given up. The bulletin's spelling is kept until the last node's collector takes it.
 fn take_in(
     collectors: &mut Option<NodeCollectors>,
-    world: &World,
+    world: &mut World,
     to: NodeId,
     origin: NodeId,
     number: u32,
 )
-    requires last { slice_get world.now.past 0 ≡ Some (events.Hand to origin number) }
-    requires stand { IfSome collectors.old (AreCollectorsAt world.now.cluster (drop 1 world.now.past)) }
-    ensures { IfSome collectors.new (AreCollectorsAt world.now.cluster world.now.past) }
+    requires last { slice_get world.old.past 0 ≡ Some (events.Hand to origin number) }
+    requires stand { IfSome collectors.old (AreCollectorsAt world.old.cluster (drop 1 world.old.past)) }
+    ensures world { world.new ≡ world.old }
+    ensures collectors { IfSome collectors.new (AreCollectorsAt world.old.cluster world.old.past) }
 {
     let Some(rows) = collectors else {
         return;
     };
-    if rows.hand(world, to, origin, number).is_err() {
+    let others_want = rows.others_want(to, origin, number);
+    keep_if(others_want, world, origin, number);
+    let handed = rows.hand(world, to, origin, number);
+    forget_if(!others_want, world, origin, number);
+    if handed.is_err() {
         *collectors = None;
+    }
+}
+
+/// The bulletin's spelling is kept from now on, if it is to be.
+fn keep_if(is_wanted: bool, world: &mut World, origin: NodeId, number: u32)
+    ensures { world.new ≡ world.old }
+{
+    if is_wanted {
+        world.keep_spelling(origin, number);
+    }
+}
+
+/// The bulletin's spelling is kept no longer, if it need not be.
+fn forget_if(is_done: bool, world: &mut World, origin: NodeId, number: u32)
+    ensures { world.new ≡ world.old }
+{
+    if is_done {
+        world.forget_spelling(origin, number);
     }
 }
 

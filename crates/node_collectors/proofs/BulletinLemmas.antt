@@ -31,6 +31,8 @@ use Rattle.collector.specs.declared.read.TakeFault.{TakeFault}
 use Rattle.collector.specs.declared.read.TakeFault.TheVariants as faults
 use Rattle.collector.specs.Refusals.{IsRefusal, counts_within, is_foreign, is_within, pairs_within, read_as}
 use Rattle.collector.proofs.TakeLemmas.{read_accepted}
+use Rattle.true_config.specs.Readings.{IsSpelledAt}
+use Rattle.node_collectors.specs.Standing.{IsRead}
 use Rattle.node_collectors.proofs.WithinLemmas.{IsNoticeWithin, NameWithin, notice-within}
 
 -- ---- names
@@ -143,6 +145,12 @@ read-own nodes o b bytes fits is own =
     let whole : spelled b ++ [] ≡ bytes = append-nil (spelled b) ∙ sym is in
     let read : reading bytes ≡ Ok (b, length (spelled b)) = ap reading (sym whole) ∙ reading-again b [] fits in
     read_accepted nodes o bytes (b, length (spelled b)) read (omega (arith, ap length is)) own
+
+-- so what is spelled at a number of a stream is read
+pub spelled-read : (cl : Cluster) (h : List Event) (o k : ℕ) (bytes : List ℕ) → IsLegal cl h → o < cl.nodes → IsSpelledAt cl h o k bytes → IsRead cl.nodes o bytes
+spelled-read cl h o k bytes legal inside at =
+    let b = at.bulletin in
+    (b, read-own cl.nodes o b bytes at.spells.spellable at.spells.bytes (told-own cl h o k b legal inside at.ordered at.told))
 
 -- so no refusal is left but want of memory
 pub none-refused : (read : Result Bulletin TakeFault) (b : Bulletin) (e : TakeFault) → read ≡ Ok b → IsRefusal e read → e ≡ faults.NoMemory

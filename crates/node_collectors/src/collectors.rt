@@ -7,6 +7,7 @@ ghost use Rattle.history_model.specs.State.{is_up};
 ghost use Rattle.history_model.specs.Streams.{stream};
 ghost use Rattle.history_model.specs.Sweeps.{IsVerdict};
 ghost use Rattle.true_config.specs.Promises.{IsFoundBySweep};
+ghost use Rattle.true_config.specs.Readings.{IsSpelledAt};
 ghost use Rattle.collector.specs.declared.read.TakeFault.TheVariants as faults;
 ghost use Rattle.collector.specs.Collected.{IsSettled};
 ghost use Rattle.collector.specs.Taking.{IsOfStreams};
@@ -89,6 +90,18 @@ impl NodeCollectors {
         }
     }
 
+    /// Whether another node's collector has not taken the bulletin yet. It tells what is worth keeping, so nothing is promised of
+    /// it. For each node the time of a look-up among the bulletins that wait there.
+    pub fn others_want(&self, to: NodeId, origin: NodeId, number: u32) -> bool {
+        let own = to.get() as usize;
+        for (place, row) in self.rows.iter().enumerate() {
+            if place != own && !row.has_taken(origin, number) {
+                return true;
+            }
+        }
+        false
+    }
+
     /// The verdict of a sweep by the node, which is up, in the world's history. Afterwards the collectors stand at the history
     /// with that sweep, and the collector has dropped whom it stopped. After `NoMemory` all is as before. Linear time in the
     /// collector's graph, and in proportion to n log n for n stops and their owners.
@@ -128,12 +141,25 @@ fn sweep_out(collector: &mut Collector) -> Result<Verdict, NoMemory>
     Ok(verdict)
 }
 
-/// The bytes of the origin's bulletin of this number in the world's history. Time in proportion to n log n for n rows.
+/// The bytes of the origin's bulletin of this number in the world's history. Linear time where they are kept, else in proportion to
+/// n log n for n rows.
 fn bytes_of(alloc: Global, world: &World, origin: NodeId, number: u32) -> Result<Octets, NoMemory>
     requires origin { origin < world.now.cluster.nodes }
     requires number { number < length (stream world.now.cluster origin world.now.past) }
     ensures told { IfOk result (IsOfStreams (λ o. stream world.now.cluster o world.now.past) origin number) }
     ensures read { IfOk result (IsRead world.now.cluster.nodes origin) }
+{
+    world.is_lawful();
+    match world.spelling(origin, number) {
+        Some(bytes) => bytes.copy(),
+        None => spell(alloc, world, origin, number),
+    }
+}
+
+/// The same, written anew.
+fn spell(alloc: Global, world: &World, origin: NodeId, number: u32) -> Result<Octets, NoMemory>
+    requires { number < length (stream world.now.cluster origin world.now.past) }
+    ensures { IfOk result (IsSpelledAt world.now.cluster world.now.past origin number) }
 {
     world.is_lawful();
     bulletins_fit_the_wire();

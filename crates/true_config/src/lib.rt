@@ -13,6 +13,7 @@ mod messages;
 mod moment;
 mod publishing;
 mod readers;
+mod spelling;
 mod sweeping;
 mod telling;
 mod working;
