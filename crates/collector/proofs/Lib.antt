@@ -11,3 +11,4 @@ pub mod LeftLemmas
 pub mod DropLemmas
 pub mod EndLemmas
 pub mod RoundLemmas
+pub mod Crossing

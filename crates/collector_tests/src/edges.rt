@@ -1,4 +1,4 @@
-//! Edges between actors whose serials are their places.
+//! Edges between actors of one node whose serials are their places.
 ghost use Rattle.std.specs.Prelude.{◌≡◌, IfOk};
 ghost use Rattle.crgc_ids.specs.Actor.{Actor};
 ghost use Rattle.edge_table.specs.Table.{HasEnds};
@@ -8,7 +8,8 @@ use edge_table::EdgeTable;
 use std::test::Fail;
 
 fn actor(serial: u32) -> Result<ActorId, Fail>
-    ensures { IfOk result (λ a. a.serial ≡ serial) }
+    ensures node { IfOk result (λ a. a.node ≡ 0) }
+    ensures serial { IfOk result (λ a. a.serial ≡ serial) }
 {
     let node = NodeId::new(0).ok_or("node 0")?;
     Ok(ActorId::new(node, serial).ok_or("a serial too large")?)
@@ -16,8 +17,8 @@ fn actor(serial: u32) -> Result<ActorId, Fail>
 
 /// Adds the edge between the two actors, and returns its number.
 fn add(table: &mut EdgeTable, owner: u32, target: u32) -> Result<u32, Fail>
-    requires { (a b : Actor) → HasEnds table.old a b a.serial b.serial }
-    ensures { (a b : Actor) → HasEnds table.new a b a.serial b.serial }
+    requires { (a b : Actor) → a.node ≡ 0 → b.node ≡ 0 → HasEnds table.old a b a.serial b.serial }
+    ensures { (a b : Actor) → a.node ≡ 0 → b.node ≡ 0 → HasEnds table.new a b a.serial b.serial }
 {
     if owner >= table.place_count() || target >= table.place_count() {
         return Err(Fail::from("no such place"));
@@ -26,12 +27,14 @@ fn add(table: &mut EdgeTable, owner: u32, target: u32) -> Result<u32, Fail>
     if table.number_of(from, to, owner, target).is_some() {
         return Err(Fail::from("an edge that is there"));
     }
-    Ok(table.add(from, to, owner, target)?)
+    let number = table.add(from, to, owner, target)?;
+    let _edges = table.edge_count();
+    Ok(number)
 }
 
 /// The number of the edge between the two actors.
 fn number(table: &EdgeTable, owner: u32, target: u32) -> Result<Option<u32>, Fail>
-    requires { (a b : Actor) → HasEnds table.now a b a.serial b.serial }
+    requires { (a b : Actor) → a.node ≡ 0 → b.node ≡ 0 → HasEnds table.now a b a.serial b.serial }
 {
     if owner >= table.place_count() || target >= table.place_count() {
         return Err(Fail::from("no such place"));
@@ -41,8 +44,8 @@ fn number(table: &EdgeTable, owner: u32, target: u32) -> Result<Option<u32>, Fai
 
 /// Ten places, and edges from each to each.
 fn ten_by_ten(table: &mut EdgeTable) -> Result<(), Fail>
-    requires { (a b : Actor) → HasEnds table.old a b a.serial b.serial }
-    ensures { (a b : Actor) → HasEnds table.new a b a.serial b.serial }
+    requires { (a b : Actor) → a.node ≡ 0 → b.node ≡ 0 → HasEnds table.old a b a.serial b.serial }
+    ensures { (a b : Actor) → a.node ≡ 0 → b.node ≡ 0 → HasEnds table.new a b a.serial b.serial }
 {
     for _ in 0..10 {
         table.add_place()?;

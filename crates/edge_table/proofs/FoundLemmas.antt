@@ -1,12 +1,12 @@
 -- That each edge is found: it is listed near, or the map has its number.
-use Rattle.std.proofs.Common.{◌≡◌, ◌⊎◌, ◌<◌, ◌≤◌, ℕ, zero, suc, Bool, true, false, cond, List, [], ◌∷◌, ◌++◌, Option, Some, None, eqb, eq-eqb, get_or, length, map, position, take, drop, refl, sym, ◌∙◌, ap, subst, inl, inr, arith}
+use Rattle.std.proofs.Common.{◌≡◌, ◌⊎◌, ◌<◌, ◌≤◌, ◌↔◌, ℕ, zero, suc, Bool, true, false, cond, List, [], ◌∷◌, ◌++◌, Option, Some, None, eqb, eq-eqb, get_or, length, map, position, take, drop, refl, sym, ◌∙◌, ap, subst, inl, inr, arith}
 use Rattle.std.proofs.Math.Seq.{get_or-append_seam}
 use Rattle.std.proofs.lemmas.Bool.{cases_lt, false≢true}
 use Rattle.std.proofs.lemmas.List.{get_or_append_left, get_or_default, take-append-drop}
 use Rattle.std.proofs.lemmas.List.Quantifiers.{position-Some}
 use Rattle.std.proofs.lemmas.Option.{none-some}
 use Rattle.std.specs.Bool.{Decides}
-use Rattle.std.specs.Option.{IfSome}
+use Rattle.std.specs.Option.{IfNone, IfSome}
 use Rattle.crgc_ids.specs.Actor.{Actor}
 use Rattle.crgc_ids.specs.Members.{IsAmong}
 use Rattle.edge_table.proofs.IndexLemmas.{position-more, position-pushed}
@@ -16,7 +16,7 @@ use Rattle.edge_table.proofs.TableLemmas.{from_of, owner_of, target_of}
 use Rattle.edge_table.specs.Ends.{PlaceEnds, no_ends, numbers_of}
 use Rattle.edge_table.specs.Index.{AreFound, Indexed, IsNear, mapped}
 use Rattle.edge_table.specs.Table.{edges_from, edges_to, no_edge, same_pair}
-use Rattle.edge_table.specs.declared.pair_index.TheConstants.{NEAR}
+use Rattle.edge_table.specs.declared.near.TheConstants.{NEAR}
 use Rattle.edge_table.specs.declared.table.Edge.{Edge}
 
 -- ---- the first of a list
@@ -170,6 +170,11 @@ module _ (end : Edge → ℕ) (none : end no_edge ≡ 0) (edges : List Edge) (pl
 pub none_there : (o : Option ℕ) → ((n : ℕ) → o ≡ Some n → ⊥) → o ≡ None
 none_there None never = refl
 none_there (Some n) never = absurd (never n refl)
+
+-- what is found near is right where only what is near can be found
+pub near_is_right : (o m : Option ℕ) (P Q : ℕ → Type 0) → ((n : ℕ) → (o ≡ Some n) ↔ P n) → ((n : ℕ) → P n → Q n) → IfSome m P → IfNone m ((n : ℕ) → Q n → P n → ⊥) → m ≡ o
+near_is_right o None P Q is near found none = sym (none_there o (λ n there. let at = (is n).0 there in none n (near n at) at))
+near_is_right o (Some n) P Q is near found none = sym ((is n).1 found)
 
 -- what a map has is right where it has each number, and no wrong one
 pub map_is_right : (o m : Option ℕ) → IfSome m (λ n. o ≡ Some n) → ((n : ℕ) → o ≡ Some n → m ≡ Some n) → m ≡ o

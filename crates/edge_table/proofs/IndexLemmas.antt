@@ -1,5 +1,5 @@
 -- Pairs in a list and their numbers in an ordered map.
-use Rattle.std.proofs.Common.{◌≡◌, ◌⊎◌, ◌&&◌, ◌||◌, ◌+◌, ◌<◌, ℕ, zero, suc, Bool, true, false, cond, not, ltb, List, [], ◌∷◌, ◌++◌, Option, Some, None, get_or, length, position, take, refl, sym, ◌∙◌, ap, subst, inl, inr, arith}
+use Rattle.std.proofs.Common.{◌≡◌, ◌⊎◌, ◌&&◌, ◌||◌, ◌+◌, ◌<◌, ℕ, zero, suc, Bool, true, false, cond, not, ltb, List, [], ◌∷◌, ◌++◌, Option, Some, None, get_or, length, position, refl, sym, ◌∙◌, ap, subst, inl, inr, arith}
 use Rattle.std.proofs.lemmas.Bool.{cases_lt, false≢true, le-ltb, lt-ltb, or_from, or_parts}
 use Rattle.std.proofs.lemmas.Bool.Decides.{nat_tests}
 use Rattle.std.proofs.lemmas.List.{get_or_default}
@@ -160,17 +160,6 @@ pub among-at : (xs : List ℕ) (k d : ℕ) → k < length xs → IsAmong (get_or
 among-at [] k d inside = absurd (omega arith)
 among-at (x ∷ xs) zero d inside = inl refl
 among-at (x ∷ xs) (suc k) d inside = inr (among-at xs k d (omega arith))
-
--- one of the first of a list stands there
-pub at-among : (n m : ℕ) (xs : List ℕ) → IsAmong n (take m xs) → (k : ℕ) × (k < m) × (k < length xs) × (get_or xs k 0 ≡ n)
-at-among n zero xs h = absurd h
-at-among n (suc m) [] h = absurd h
-at-among n (suc m) (x ∷ xs) (inl e) = (0, omega arith, omega arith, sym e)
-at-among n (suc m) (x ∷ xs) (inr h) =
-    let later = at-among n m xs h in
-    let less = later.1 in
-    let inside = later.2 in
-    (suc later.0, omega arith, omega arith, later.3)
 
 -- ---- the map
 

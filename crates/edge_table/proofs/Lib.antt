@@ -3,3 +3,4 @@ pub mod IndexLemmas
 pub mod ListedLemmas
 pub mod PlaceLemmas
 pub mod TableLemmas
+pub mod Crossing

@@ -5,7 +5,7 @@ use Rattle.std.specs.Map.{lookup}
 use Rattle.crgc_ids.specs.Actor.{Actor}
 use Rattle.crgc_ids.specs.Members.{IsAmong}
 use Rattle.edge_table.specs.Table.{edges_from, edges_to, no_edge, same_pair}
-use Rattle.edge_table.specs.declared.pair_index.TheConstants.{NEAR}
+use Rattle.edge_table.specs.declared.near.TheConstants.{NEAR}
 use Rattle.edge_table.specs.declared.table.Edge.{Edge}
 
 -- pairs in the order in which they were added, and the entries of the ordered map

@@ -1,5 +1,5 @@
 -- What contracts see of a table of edges.
-use Rattle.std.specs.Prelude.{◌≡◌, ◌&&◌, ◌<◌, ◌^◌, ℕ, Bool, List, Option, Some, length, map, position, slice_index_or, slice_set}
+use Rattle.std.specs.Prelude.{◌≡◌, ◌&&◌, ◌<◌, ◌^◌, ◌↔◌, ℕ, Bool, List, Option, Some, length, map, position, slice_index_or, slice_set}
 use Rattle.std.specs.List.{AllByRecursion, IsDistinct}
 use Rattle.crgc_ids.specs.Actor.{Actor, same_actor}
 use Rattle.edge_table.specs.Ends.{PlaceEnds, no_ends, numbers_of}
@@ -25,10 +25,15 @@ no_edge = record { owner = 0; target = 0; given = 0; released = 0 }
 abbrev pub edge_at : Edges → ℕ → Edge
 edge_at t number = slice_index_or t.edges number no_edge
 
--- where there is an edge from an owner to a target, its ends are these places
+-- the edge with this number leads from the one place to the other
+abbrev pub IsBetween : List Edge → ℕ → ℕ → ℕ → Type 0
+IsBetween edges number from to =
+    (number < length edges) × ((slice_index_or edges number no_edge).owner ≡ from) × ((slice_index_or edges number no_edge).target ≡ to)
+
+-- the edge from an owner to a target, if there is one, is the one that leads from the one place to the other
 abbrev pub HasEnds : Edges → Actor → Actor → ℕ → ℕ → Type 0
 HasEnds t owner target owner_place target_place =
-    (n : ℕ) → number_at t owner target ≡ Some n → ((edge_at t n).owner ≡ owner_place) × ((edge_at t n).target ≡ target_place)
+    (n : ℕ) → (number_at t owner target ≡ Some n) ↔ IsBetween t.edges n owner_place target_place
 
 -- the numbers of the edges whose owner, and of those whose target, has this place
 abbrev pub edges_from : List Edge → ℕ → List ℕ

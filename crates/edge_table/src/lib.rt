@@ -3,6 +3,7 @@
 
 mod ends;
 pub mod laws;
+mod near;
 mod pair_index;
 mod table;
 

@@ -7,15 +7,11 @@ ghost use Rattle.crgc_ids.specs.Actor.{Actor};
 ghost use Rattle.crgc_ids.specs.Members.{IsAmong};
 ghost use Rattle.edge_table.specs.Index.{mapped};
 ghost use Rattle.edge_table.specs.Table.{same_pair};
-ghost use Rattle.edge_table.specs.declared.pair_index.TheConstants.{NEAR};
 
 use crgc_ids::{ActorId, NoMemory};
 use std::alloc::Global;
 use std::collections::BTreeMap;
 use std::marker::Model;
-
-/// How many edges from a place, and how many to one, are looked at before the ordered map is.
-pub const NEAR: usize = 8;
 
 /// Pairs of an owner and a target, no two the same, numbered from 0 in the order in which they were added, and an ordered map
 /// with the numbers of those that are to be found there. Contracts see the list of the pairs, and the entries of the map.
@@ -44,29 +40,6 @@ impl PairIndex {
             pairs: Vec::new(alloc),
             numbers: BTreeMap::new(alloc),
         }
-    }
-
-    /// The number of the pair, if it is one of the first numbers of the list. At most 8 looks at pairs.
-    pub fn number_near(&self, owner: ActorId, target: ActorId, numbers: &[u32]) -> Option<u32>
-        requires { (n : ℕ) → IsAmong n numbers.now → n < length self.now.pairs }
-        ensures near { (n : ℕ) → position (same_pair (owner, target)) self.now.pairs ≡ Some n → IsAmong n (take NEAR numbers.now)
-            → result ≡ Some n }
-        ensures number { IfSome result (λ n. position (same_pair (owner, target)) self.now.pairs ≡ Some n) }
-    {
-        for i in 0..numbers.len().min(NEAR) {
-            if self.is_pair(numbers[i], owner, target) {
-                return Some(numbers[i]);
-            }
-        }
-        None
-    }
-
-    /// Whether the pair has this number.
-    fn is_pair(&self, number: u32, owner: ActorId, target: ActorId) -> bool
-        requires { number < length self.now.pairs }
-        ensures { Decides result (position (same_pair (owner, target)) self.now.pairs ≡ Some number) }
-    {
-        self.pairs[number as usize] == (owner, target)
     }
 
     /// The number that the map has for the pair. Logarithmic time, whatever the pairs are.

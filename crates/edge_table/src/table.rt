@@ -3,11 +3,12 @@ ghost use Rattle.std.specs.Prelude.{◌≡◌, ◌+◌, ◌-◌, ◌<◌, ◌≤
 ghost use Rattle.std.specs.Bool.{Decides};
 ghost use Rattle.std.specs.List.{IsDistinct};
 ghost use Rattle.edge_table.specs.Ends.{HasRoom, HaveSameLists};
-ghost use Rattle.edge_table.specs.declared.pair_index.TheConstants.{NEAR};
+ghost use Rattle.edge_table.specs.declared.near.TheConstants.{NEAR};
 ghost use Rattle.edge_table.specs.Table.{HasEnds, edge_at, edges_from, edges_to, number_at, same_pair, with_edge};
 
 use crate::ends::Ends;
-use crate::pair_index::{NEAR, PairIndex};
+use crate::near::{NEAR, number_near};
+use crate::pair_index::PairIndex;
 use crgc_ids::{ActorId, NoMemory};
 use std::alloc::Global;
 use std::marker::Model;
@@ -114,18 +115,19 @@ impl EdgeTable {
         ensures distinct { IsDistinct same_pair self.now.pairs }
         ensures long { length self.now.edges ≡ length self.now.pairs }
     {
+        let edges = self.edges.as_slice();
         let from = self.places[owner_place as usize].from();
         let to = self.places[target_place as usize].to();
         if to.len() < from.len() && to.len() <= NEAR {
-            return self.pairs.number_near(owner, target, to);
+            return number_near(edges, owner_place, target_place, to);
         }
-        if let Some(number) = self.pairs.number_near(owner, target, from) {
+        if let Some(number) = number_near(edges, owner_place, target_place, from) {
             return Some(number);
         }
         if from.len() <= NEAR {
             return None;
         }
-        if let Some(number) = self.pairs.number_near(owner, target, to) {
+        if let Some(number) = number_near(edges, owner_place, target_place, to) {
             return Some(number);
         }
         self.pairs.number_mapped(owner, target)

@@ -4,3 +4,4 @@ pub mod NamedLemmas
 pub mod TouchLemmas
 pub mod TracedLemmas
 pub mod SweptLemmas
+pub mod Crossing

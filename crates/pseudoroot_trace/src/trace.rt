@@ -1,14 +1,14 @@
 //! A shadow graph as a graph of places.
-ghost use Rattle.std.specs.Prelude.{◌≡◌, ◌<◌, ◌&&◌, false, int_lt, length, not, pos};
+ghost use Rattle.std.specs.Prelude.{◌≡◌, ◌+◌, ◌<◌, ◌≤◌, ◌==◌, ◌&&◌, ◌||◌, int_lt, length, not, pos};
 ghost use Rattle.crgc_ids.specs.Nodes.{has_node};
 ghost use Rattle.shadow_graph.specs.Graph.{lost_in};
 ghost use Rattle.shadow_graph.specs.Places.{actor_of};
-ghost use Rattle.shadow_graph.specs.Seen.{is_dropped};
-ghost use Rattle.pseudoroot_trace.specs.Trace.{is_out, is_pseudoroot, place_graph};
+ghost use Rattle.pseudoroot_trace.specs.Trace.{may_act, place_graph};
 
-use crgc_ids::ActorId;
+use crgc_ids::{ActorId, NodeSet};
 use place_marks::PlaceGraph;
 use shadow_graph::ShadowGraph;
+use shadow_table::Shadow;
 use std::marker::Model;
 
 /// A shadow graph over which marks go: starts are pseudoroots, and marks go along positive edges. Actors that were dropped, and
@@ -43,8 +43,9 @@ impl<'a> PlaceGraph for Trace<'a> {
     }
 
     fn is_start(&self, place: u32) -> bool {
-        let actor = actor_at(self.graph, place);
-        !is_out(self.graph, actor) && is_pseudoroot(self.graph, actor)
+        let shadow = self.graph.shadow(place);
+        let is_out = shadow.dropped || is_lost(self.graph, place);
+        !is_out && is_pseudoroot(shadow)
     }
 
     fn count_from(&self, place: u32) -> usize {
@@ -54,8 +55,7 @@ impl<'a> PlaceGraph for Trace<'a> {
     fn target(&self, place: u32, index: usize) -> Option<u32> {
         let _count = self.graph.edge_count(place);
         let (target, value) = self.graph.edge_at(place, index as u32);
-        let to = actor_at(self.graph, target);
-        if leads(self.graph, to, value) {
+        if leads(self.graph, target, value) {
             Some(target)
         } else {
             None
@@ -69,8 +69,7 @@ impl<'a> PlaceGraph for Trace<'a> {
     fn owner(&self, place: u32, index: usize) -> Option<u32> {
         let _count = self.graph.owner_count(place);
         let (owner, value) = self.graph.owner_at(place, index as u32);
-        let to = actor_at(self.graph, place);
-        if leads(self.graph, to, value) {
+        if leads(self.graph, place, value) {
             Some(owner)
         } else {
             None
@@ -79,43 +78,42 @@ impl<'a> PlaceGraph for Trace<'a> {
 
     fn has_step(&self, owner: u32, target: u32) -> bool {
         let _places = self.graph.place_count();
-        let to = actor_at(self.graph, target);
-        leads(self.graph, to, self.graph.edge_between(owner, target))
+        leads(self.graph, target, self.graph.edge_between(owner, target))
     }
 }
 
-/// Whether a sweep leaves the actor out: it was dropped, or its node is lost.
-fn is_out(graph: &ShadowGraph, actor: ActorId) -> bool
-    ensures { result ≡ is_out graph.now actor }
+/// Whether the actor with this shadow, which was not dropped, is a pseudoroot: it has no own entry, or that says busy or root, or
+/// its balance is not 0.
+fn is_pseudoroot(shadow: Shadow) -> bool
+    requires told { shadow.told ≤ 4611686018427387904 }
+    requires admitted { shadow.admitted ≤ 4611686018427387904 }
+    ensures { result ≡ (may_act shadow.flags || not (shadow.received == shadow.told + shadow.admitted)) }
 {
-    graph.is_dropped(actor) || is_lost(graph, actor)
-}
-
-/// Whether the actor, which was not dropped, is a pseudoroot: it has no own entry, or that says busy or root, or its balance is
-/// not 0.
-fn is_pseudoroot(graph: &ShadowGraph, actor: ActorId) -> bool
-    requires { is_dropped graph.now actor ≡ false }
-    ensures { result ≡ is_pseudoroot graph.now actor }
-{
-    let may_act = match graph.flags(actor) {
+    let may_act = match shadow.flags {
         Some((busy, root)) => busy || root,
         None => true,
     };
-    may_act || graph.balance(actor) != 0
+    may_act || shadow.received != shadow.told + shadow.admitted
 }
 
-/// Whether marks go along an edge of this value to the target: it is positive, and the target's node is not lost.
-fn leads(graph: &ShadowGraph, target: ActorId, value: i64) -> bool
-    ensures { result ≡ (int_lt (pos 0) value && not (has_node (lost_in graph.now) target.node)) }
+/// Whether marks go along an edge of this value to the target's place: it is positive, and the target's node is not lost.
+fn leads(graph: &ShadowGraph, target: u32, value: i64) -> bool
+    requires { target < length graph.now.shadows.names }
+    ensures { result ≡ (int_lt (pos 0) value && not (has_node (lost_in graph.now) (actor_of graph.now target).node)) }
 {
     value > 0 && !is_lost(graph, target)
 }
 
-/// Whether the actor's node is lost.
-fn is_lost(graph: &ShadowGraph, actor: ActorId) -> bool
-    ensures { result ≡ has_node (lost_in graph.now) actor.node }
+/// Whether the node of the actor at the place is lost.
+fn is_lost(graph: &ShadowGraph, place: u32) -> bool
+    requires { place < length graph.now.shadows.names }
+    ensures { result ≡ has_node (lost_in graph.now) (actor_of graph.now place).node }
 {
-    graph.lost().contains(actor.node())
+    let lost = graph.lost();
+    if lost == NodeSet::empty() {
+        return false;
+    }
+    lost.contains(actor_at(graph, place).node())
 }
 
 /// The actor at the place.

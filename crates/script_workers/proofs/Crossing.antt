@@ -7,11 +7,7 @@ use Rattle.std.proofs.MapsCrossingOver.{crosses as sets}
 use Rattle.turn_lock.specs.contracts.lock.TurnLock as TurnLock
 use Rattle.turn_lock.specs.contracts.pass.Pass as Pass
 use Rattle.turn_lock.proofs.Crossing.{pass_send, lock_sync}
-use Rattle.collector.specs.contracts.collector.Collector as Collector
-use Rattle.gossip_core.specs.contracts.gossip.GossipCore as Gossip
 use Rattle.history_model.specs.contracts.history.History as History
-use Rattle.pseudoroot_trace.specs.contracts.marks.Marks as Marks
-use Rattle.pseudoroot_trace.specs.contracts.traced.TracedGraph as Traced
 use Rattle.traffic.specs.contracts.traffic.Traffic as Traffic
 use Rattle.roster.specs.contracts.table.Roster as Roster
 use Rattle.bulletin_streams.specs.contracts.streams.BulletinStreams as Streams
@@ -60,17 +56,3 @@ shared = search (sendable, lock_sync, cluster_send) depth 40
 
 pub moved : IsSend pass
 moved = search (sendable, pass_send, cluster_send) depth 40
-
--- ---- a collector comes back
-
-gossip_send : IsSend Gossip.the_row
-gossip_send = search (crosses, maps, sets, frees, sendable) depth 60 fits 100000
-
-traced_send : IsSend Traced.the_row
-traced_send = search (crosses, maps, sets, frees, sendable) depth 60 fits 100000
-
-marks_send : IsSend Marks.the_row
-marks_send = search (crosses, maps, sets, frees, sendable) depth 60 fits 100000
-
-pub collector_send : IsSend Collector.the_row
-collector_send = search (crosses, sendable, gossip_send, traced_send, marks_send) depth 60 fits 100000

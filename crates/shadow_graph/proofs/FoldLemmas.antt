@@ -24,14 +24,14 @@ use Rattle.shadow_table.specs.Shadows.{Shadows}
 use Rattle.shadow_table.specs.declared.table.Shadow.{Shadow}
 use Rattle.undo_log.specs.declared.corrections.Correction.{Correction}
 use Rattle.shadow_rows.specs.Rows.{IsLogCovered, NamesRows}
-use Rattle.shadow_rows.specs.Touched.{LeavesActor, NamesMore, is_touched}
+use Rattle.shadow_rows.specs.Touched.{LeavesActor, is_touched}
 use Rattle.shadow_graph.specs.Graph.{Graph, lost_in}
 use Rattle.shadow_graph.specs.Kept.{AreWithin, IsKept, lost_count}
 use Rattle.shadow_rows.specs.Losing.{Corrects, LosesNodes, gain_before, is_newly_lost}
 use Rattle.shadow_rows.specs.Pairs.{KeepsEnds}
 use Rattle.shadow_rows.specs.Settled.{IsCovered}
 use Rattle.shadow_rows.specs.Folded.{CountsFold}
-use Rattle.shadow_graph.specs.Taken.{ClosesLink, FoldsIn, LeavesOthers, TakesIn, touches}
+use Rattle.shadow_graph.specs.Taken.{ClosesLink, FoldsIn, TakesIn, touches}
 use Rattle.shadow_rows.proofs.AddedLemmas.{tabled-counted}
 use Rattle.shadow_rows.proofs.TouchLemmas.{leaves-untouched, or-parts}
 use Rattle.shadow_graph.proofs.GraphLemmas.{graph-final, graph-more}

@@ -1,12 +1,12 @@
 -- The known actors are those that were named, without the dropped.
-use Rattle.std.proofs.Common.{◌≡◌, ◌+◌, ◌-◌, ◌&&◌, ◌≤◌, ◌<◌, ℕ, zero, suc, Bool, true, false, not, List, get_or, length, take, refl, ap, subst, ◌∙◌, arith, count_by}
+use Rattle.std.proofs.Common.{◌≡◌, ◌+◌, ◌-◌, ◌&&◌, ◌≤◌, ◌<◌, ℕ, zero, suc, Bool, true, false, not, get_or, length, take, refl, ap, subst, ◌∙◌, arith, count_by}
 use Rattle.std.proofs.lemmas.List.{take_all}
 use Rattle.std.proofs.lemmas.List.Sums.{count_by_more_no, count_by_more_yes}
 use Rattle.std.specs.List.{IsDistinct}
-use Rattle.crgc_ids.specs.Actor.{Actor, same_actor}
+use Rattle.crgc_ids.specs.Actor.{same_actor}
 use Rattle.crgc_ids.proofs.ActorLaws.{same_actor-decides}
 use Rattle.shadow_rows.specs.Tabled.{no_actor}
-use Rattle.shadow_table.specs.Shadows.{Shadows, blank, dropped_count, is_named}
+use Rattle.shadow_table.specs.Shadows.{blank, dropped_count, is_named}
 use Rattle.shadow_table.specs.declared.table.Shadow.{Shadow}
 use Rattle.shadow_graph.specs.Graph.{Graph}
 use Rattle.shadow_graph.specs.Seen.{is_dropped, is_known}

@@ -8,3 +8,4 @@ pub mod KnownLemmas
 pub mod OwnersLemmas
 pub mod SameLemmas
 pub mod SameFoldLemmas
+pub mod Crossing

@@ -2,7 +2,7 @@
 use Rattle.std.proofs.Common.{◌≡◌, ◌<◌, ◌||◌, ◌-ℤ◌, ℕ, ℤ, SFits, of_z, pos, to_z, w64, zero, suc, Bool, true, false, cond, List, [], ◌∷◌, length, get_or, map, refl, sym, ◌∙◌, ap, subst, inl, inr, arith}
 use Rattle.std.proofs.lemmas.Bool.{eq-eqb, eqb-true, false_from_ne_true, false≢true}
 use Rattle.std.proofs.lemmas.Int.{to_z-of_z}
-use Rattle.std.proofs.lemmas.List.Sums.{passes_at_first, position_or_len_is}
+use Rattle.std.proofs.lemmas.List.Sums.{position_or_len_is}
 use Rattle.std.proofs.lemmas.Map.Keys.{apart_from_distinct}
 use Rattle.std.specs.Bool.{Decides}
 use Rattle.std.specs.List.{IsDistinct, filter, list_any, position_or_len}
@@ -14,7 +14,7 @@ use Rattle.crgc_ids.specs.Members.{IsAmong}
 use Rattle.edge_table.proofs.ListedLemmas.{listed, numbers-distinct}
 use Rattle.edge_table.specs.Table.{Edges, edge_at, edges_from, edges_to, no_edge, same_pair}
 use Rattle.edge_table.specs.declared.table.Edge.{Edge}
-use Rattle.shadow_table.proofs.KeyedLemmas.{place-within}
+use Rattle.shadow_table.proofs.KeyedLemmas.{key-at, place-within}
 use Rattle.shadow_table.specs.Shadows.{Shadows, blank, is_named, place_in, shadow_at}
 use Rattle.shadow_rows.proofs.PairLemmas.{same_pair-decides}
 use Rattle.shadow_graph.proofs.SeenLemmas.{none-passes, past-end, unnamed-blank}
@@ -100,13 +100,6 @@ module _ {K : Type 0} (same : K → K → Bool) (told : (j k : K) → Decides (s
 
   pub key-there : (i : ℕ) → i < length ks → list_any (same (get_or ks i d)) ks ≡ true
   key-there i inside = any-at (same (get_or ks i d)) ks i d inside ((told (get_or ks i d) (get_or ks i d)).1 refl)
-
-  -- a key that is there stands at its place
-  pub key-at : (k : K) → list_any (same k) ks ≡ true → get_or ks (position_or_len (same k) ks) d ≡ k
-  key-at k there =
-      let p = position_or_len (same k) ks in
-      let passes : same k (get_or ks p d) ≡ true = passes_at_first (same k) ks d (place-within (same k) ks there) in
-      sym ((told k (get_or ks p d)).0 passes)
 
 -- ---- the places of a graph
 

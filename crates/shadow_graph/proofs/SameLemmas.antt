@@ -8,7 +8,8 @@ use Rattle.shadow_table.proofs.KeyedLemmas.{place-within}
 use Rattle.shadow_table.specs.Shadows.{blank, is_named, place_in}
 use Rattle.shadow_table.specs.declared.table.Shadow.{Shadow}
 use Rattle.shadow_rows.proofs.PairLemmas.{same_pair-decides}
-use Rattle.shadow_graph.proofs.PlacedLemmas.{key-at, key-there}
+use Rattle.shadow_table.proofs.KeyedLemmas.{key-at}
+use Rattle.shadow_graph.proofs.PlacedLemmas.{key-there}
 use Rattle.shadow_graph.specs.Graph.{Graph, lost_in}
 use Rattle.shadow_rows.specs.Pairs.{edge_between, has_pair}
 use Rattle.shadow_graph.specs.Places.{ArePlaced, actor_of}

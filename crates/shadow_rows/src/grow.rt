@@ -41,6 +41,7 @@ fn add_pair(
     ensures extends { ExtendsEdges edges.old edges.new }
     ensures places { edges.new.places ≡ edges.old.places }
 {
+    let _edges = edges.edge_count();
     let to = shadows.place_of(target).unwrap();
     if let Some(number) = edges.number_of(owner, target, from, to) {
         return Ok(number);

@@ -22,6 +22,12 @@ place-within test (k ∷ ks) t =
     split true t later = omega arith
     split false t later = later t
 
+-- and stands there
+pub key-at : {K : Type 0} (same : K → K → Bool) (told : (j k : K) → Decides (same j k) (j ≡ k)) (ks : List K) (d k : K) → list_any (same k) ks ≡ true → get_or ks (position_or_len (same k) ks) d ≡ k
+key-at same told ks d k there =
+    let p = position_or_len (same k) ks in
+    sym ((told k (get_or ks p d)).0 (passes_at_first (same k) ks d (place-within (same k) ks there)))
+
 module _ {K V : Type 0} (same : K → K → Bool) (told : (j k : K) → Decides (same j k) (j ≡ k)) (d : V) where
   -- the value of one key is changed, and no other
   pub found-changed : (ks : List K) (vs : List V) (a : K) (p : ℕ) (v : V) → p < length ks → p ≡ position_or_len (same a) ks → p < length vs → (b : K) → found same d ks (set vs p v) b ≡ cond (same b a) v (found same d ks vs b)

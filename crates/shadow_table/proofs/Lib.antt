@@ -3,3 +3,4 @@ pub mod RowLemmas
 pub mod ShadowLemmas
 pub mod NameLemmas
 pub mod NumberLemmas
+pub mod Crossing

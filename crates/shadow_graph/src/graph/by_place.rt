@@ -1,6 +1,7 @@
 //! The edges of a shadow graph by the places of its actors.
 ghost use Rattle.std.specs.Prelude.{◌≡◌, ◌<◌, ◌≤◌, ◌-ℤ◌, if◌then◌else◌, pos, length, slice_index};
 ghost use Rattle.edge_table.specs.Table.{edge_at, no_edge};
+ghost use Rattle.shadow_table.specs.Shadows.{shadow_at};
 ghost use Rattle.shadow_rows.specs.Pairs.{edge_between};
 ghost use Rattle.shadow_graph.specs.Places.{actor_of, owners_of, targets_of};
 ghost use Rattle.shadow_graph.specs.Seen.{is_dropped, seen_edge};
@@ -9,8 +10,20 @@ ghost use Rattle.shadow_rows.specs.Tabled.{pair_at};
 use super::ShadowGraph;
 use crate::found::no_edge;
 use edge_table::Edge;
+use shadow_table::Shadow;
 
 impl ShadowGraph {
+    /// The shadow of the actor at the place, whether it was dropped or not. Constant time.
+    pub fn shadow(&self, place: u32) -> Shadow
+        requires { place < length self.now.shadows.names }
+        ensures value { result ≡ shadow_at self.now.shadows (actor_of self.now place) }
+        ensures told { result.told ≤ 4611686018427387904 }
+        ensures admitted { result.admitted ≤ 4611686018427387904 }
+    {
+        let _names = self.shadows.place_count();
+        self.shadows.shadow(place)
+    }
+
     /// How many targets rows named with the actor at the place as owner. Constant time.
     pub fn edge_count(&self, place: u32) -> u32
         requires { place < length self.now.shadows.names }
@@ -93,6 +106,7 @@ impl ShadowGraph {
         ensures released { result.released ≤ 4611686018427387904 }
     {
         let _names = self.shadows.place_count();
+        let _edges = self.edges.edge_count();
         let (from, to) = (self.actor(owner), self.actor(target));
         let Some(number) = self.edges.number_of(from, to, owner, target) else {
             return no_edge();
@@ -109,6 +123,9 @@ impl ShadowGraph {
             result ≡ pos e.given -ℤ pos e.released }
     {
         let _names = self.shadows.place_count();
+        if edge.given == edge.released {
+            return 0;
+        }
         if self.shadows.shadow(target).dropped {
             return 0;
         }

@@ -1,9 +1,10 @@
+use Rattle.std.proofs.Common.{◌≡◌}
 use Rattle.crgc_ids.specs.Actor.{Actor}
 use Rattle.edge_table.specs.Table.{HasEnds}
 use Rattle.collector_tests.proofs.edges.ten_by_ten.Given as goal
 
 abbrev pub invariant-loop : goal.invariant-loop
-invariant-loop l = (a b : Actor) → HasEnds l.table a b a.serial b.serial
+invariant-loop l = (a b : Actor) → a.node ≡ 0 → b.node ≡ 0 → HasEnds l.table a b a.serial b.serial
 
 abbrev pub invariant-loop-number : goal.invariant-loop-number
-invariant-loop-number l = (a b : Actor) → HasEnds l.table a b a.serial b.serial
+invariant-loop-number l = (a b : Actor) → a.node ≡ 0 → b.node ≡ 0 → HasEnds l.table a b a.serial b.serial

@@ -11,7 +11,8 @@ use Rattle.turn_lock.proofs.Crossing.{captures_send}
 use Rattle.script_workers.specs.contracts.threads.Crew as Crew
 use Rattle.cluster_calls.specs.Calling.{Knows}
 use Rattle.script_workers.proofs.Leads.{led-one_more}
-use Rattle.script_workers.proofs.Crossing.{collector_send, lock, moved, pass, shared}
+use Rattle.collector.proofs.Crossing.{collector_send}
+use Rattle.script_workers.proofs.Crossing.{lock, moved, pass, shared}
 use Rattle.script_workers.proofs.threads.+fn-serve_all-join+arg2+serve_all.Goals as goal
 
 code_sync : IsSync Code.the_row

@@ -12,4 +12,4 @@ returns-in_err-to-clause-number c =
 
 pub number_of-requires-clause-ends : goal.number_of-requires-clause-ends
 number_of-requires-clause-ends c =
-    ends-tabled c.args.shadows.now.names c.args.edges.now c.args.owner c.args.target c.in_ok-from.from c.in_ok-to.to c.requires c.in_ok-from.ensures.place c.in_ok-to.ensures.place
+    ends-tabled c.args.shadows.now.names c.args.edges.now c.args.owner c.args.target c.in_ok-from.from c.in_ok-to.to c.requires c.edge_count-edges.ensures.long c.edge_count-edges.ensures.distinct (sym c.in_ok-from.ensures.found) (sym c.in_ok-to.ensures.found) c.in_ok-from.ensures.place c.in_ok-to.ensures.place

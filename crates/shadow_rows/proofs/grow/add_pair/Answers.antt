@@ -24,7 +24,7 @@ add-requires-clause-owner c =
 
 pub number_of-requires-clause-ends : goal.number_of-requires-clause-ends
 number_of-requires-clause-ends c =
-    ends-tabled c.args.shadows.now.names c.args.edges.now c.args.owner c.args.target c.args.from c.unwrap-to.result c.requires.tabled c.requires.from (search rules)
+    ends-tabled c.args.shadows.now.names c.args.edges.now c.args.owner c.args.target c.args.from c.unwrap-to.result c.requires.tabled c.edge_count-edges.ensures.long c.edge_count-edges.ensures.distinct c.requires.owner c.requires.target c.requires.from (search rules)
 
 pub returns-in-Some-clause-there : goal.returns-in-Some-clause-there
 returns-in-Some-clause-there c =

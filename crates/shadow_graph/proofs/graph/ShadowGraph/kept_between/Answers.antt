@@ -2,12 +2,12 @@ use Rattle.std.proofs.Common.{◌≡◌, ◌<◌, ◌≤◌, ap, length, rules, 
 use Rattle.crgc_ids.proofs.ActorLaws.{same_actor-decides}
 use Rattle.crgc_ids.specs.Actor.{same_actor}
 use Rattle.edge_table.specs.declared.table.Edge.{Edge}
-use Rattle.shadow_table.specs.Shadows.{place_in}
+use Rattle.shadow_table.specs.Shadows.{is_named, place_in}
 use Rattle.shadow_rows.proofs.EndsLemmas.{ends-tabled}
 use Rattle.shadow_rows.specs.Pairs.{edge_between}
 use Rattle.shadow_rows.specs.Tabled.{no_actor}
 use Rattle.shadow_graph.proofs.KeptLemmas.{small-kept}
-use Rattle.shadow_graph.proofs.PlacedLemmas.{key-place}
+use Rattle.shadow_graph.proofs.PlacedLemmas.{key-place, key-there}
 use Rattle.shadow_graph.specs.Graph.{Graph}
 use Rattle.shadow_graph.specs.Places.{actor_of}
 use Rattle.shadow_graph.proofs.graph.ShadowGraph.kept_between.Goals as goal
@@ -23,7 +23,9 @@ number_of-requires-clause-ends c =
     let to = c.actor-to.ensures ∙ ap (λ (x : Graph). actor_of x c.args.target) (sym c.self.view_is) in
     let owner_is = ap (place_in names) from ∙ key-place same_actor same_actor-decides names no_actor c.args.owner c.place_count-names.ensures.distinct owner in
     let target_is = ap (place_in names) to ∙ key-place same_actor same_actor-decides names no_actor c.args.target c.place_count-names.ensures.distinct target in
-    ends-tabled names g.edges c.actor-from.result c.actor-to.result c.args.owner c.args.target c.self.invariant.tabled (sym owner_is) (sym target_is)
+    let owner_named = ap (is_named names) from ∙ key-there same_actor same_actor-decides names no_actor c.args.owner owner in
+    let target_named = ap (is_named names) to ∙ key-there same_actor same_actor-decides names no_actor c.args.target target in
+    ends-tabled names g.edges c.actor-from.result c.actor-to.result c.args.owner c.args.target c.self.invariant.tabled c.edge_count-edges.ensures.long c.edge_count-edges.ensures.distinct owner_named target_named (sym owner_is) (sym target_is)
 
 pub returns-clause-given : goal.returns-clause-given
 returns-clause-given c =

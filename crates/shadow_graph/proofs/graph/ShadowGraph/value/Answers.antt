@@ -11,8 +11,15 @@ use Rattle.shadow_graph.proofs.graph.ShadowGraph.value.Goals as goal
 dropped-none : (v : Bool) (e : Edge) → v ≡ true → pos 0 ≡ pos (cond v no_edge e).given -ℤ pos (cond v no_edge e).released
 dropped-none v e is = rw is refl
 
+nothing-left : (v : Bool) (e : Edge) → e.given ≡ e.released → pos 0 ≡ pos (cond v no_edge e).given -ℤ pos (cond v no_edge e).released
+nothing-left true e same = refl
+nothing-left false e same = omega (arith, ints)
+
 value-there : (v : Bool) (e : Edge) → v ≡ false → e.given ≤ 4611686018427387904 → e.released ≤ 4611686018427387904 → to_z w64 (of_z w64 (to_z w64 e.given -ℤ to_z w64 e.released)) ≡ pos (cond v no_edge e).given -ℤ pos (cond v no_edge e).released
 value-there v e is given released = rw is (omega (arith, ints))
+
+pub returns-then-edge : goal.returns-then-edge
+returns-then-edge c = nothing-left _ c.args.edge c.if-edge.true
 
 pub returns-then-shadow : goal.returns-then-shadow
 returns-then-shadow c =

@@ -1,0 +1,17 @@
+-- A table of edges may go to another thread.
+use denote.Param.Send.{IsSend, sendable}
+use Rattle.std.proofs.Crossing.{crosses, frees}
+use Rattle.std.proofs.MapsCrossing.{crosses as maps}
+use Rattle.std.proofs.MapsCrossingOver.{crosses as sets}
+use Rattle.edge_table.specs.contracts.ends.Ends as Ends
+use Rattle.edge_table.specs.contracts.table.EdgeTable as EdgeTable
+use Rattle.edge_table.specs.contracts.pair_index.PairIndex as PairIndex
+
+ends_send : IsSend Ends.the_row
+ends_send = search (crosses, sendable) depth 60 fits 100000
+
+index_send : IsSend PairIndex.the_row
+index_send = search (crosses, maps, sets, frees, sendable) depth 60 fits 100000
+
+pub table_send : IsSend EdgeTable.the_row
+table_send = search (crosses, sendable, ends_send, index_send) depth 60 fits 100000
