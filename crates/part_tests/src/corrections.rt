@@ -6,7 +6,7 @@ ghost use Rattle.row_sums.specs.Totals.{actor_total, pair_total};
 use crgc_ids::{ActorCount, ActorCounts, ActorId, NodeId, PairCount, PairCounts};
 use std::alloc::Global;
 use std::test::Fail;
-use undo_log::{Correction, UndoLog};
+use undo_log::{Correction, Side, UndoLog};
 
 fn actor(serial: u32) -> Result<ActorId, Fail> {
     let node = NodeId::new(1).ok_or("node 1")?;
@@ -73,6 +73,7 @@ fn what_a_node_told_stands_beside_what_was_admitted(rt: HostRuntime) -> Result<(
         [sends, put_in, taken_back].as_slice()
     );
     assert_eq!(rt; log.settle(other)?.len(), 0);
-    assert_eq!(rt; log.rows(other).len(), 0);
+    assert_eq!(rt; log.pairs(node, Side::Told).len(), 1);
+    assert_eq!(rt; log.messages(other, Side::Told).len(), 0);
     Ok(())
 }

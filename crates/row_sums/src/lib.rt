@@ -5,9 +5,9 @@ mod counts;
 mod orders;
 mod pairs;
 
-pub use counts::sum_of_counts;
+pub use counts::{add_up_counts, sum_of_counts};
 pub use orders::compare_actors;
-pub use pairs::sum_of_pairs;
+pub use pairs::{add_up_pairs, sum_of_pairs};
 
 #[cfg(test)]
 mod tests;

@@ -1,15 +1,18 @@
 //! Rows that count pairs of an owner and a target.
 ghost use Rattle.std.specs.Prelude.{◌≡◌, ◌+◌, ◌<◌, ◌^◌, ◌&&◌, if◌then◌else◌, min};
 ghost use Rattle.std.specs.List.{AllByRecursion};
+ghost use Rattle.std.specs.List.Sorted.{IsPermutation, IsSortedBy};
+ghost use Rattle.std.specs.Ordering.{is_lt};
 ghost use Rattle.crgc_ids.specs.Actor.{Actor, IsPairBelow, same_actor};
 ghost use Rattle.crgc_ids.specs.Rising.{IsRising};
+ghost use Rattle.row_sums.specs.Orders.{compare_pairs};
 ghost use Rattle.row_sums.specs.Totals.{pair_total};
 
 use crate::orders::compare_pairs;
 use crgc_ids::{PairCount, PairCounts};
 
-/// The rows added up: they rise, those of one pair become one row, and each pair is counted as often as before. Time in
-/// proportion to n log n for n rows, without memory.
+/// The rows added up: they rise, those of one pair become one row, and each pair is counted as often as before. It always
+/// succeeds. Time in proportion to n log m for n rows in m stretches that rise; where there is no memory for that, to n log n.
 pub fn sum_of_pairs(rows: Vec<PairCount>) -> PairCounts
     requires stand { AllByRecursion (λ r. 0 < r.count) rows.items }
     requires fits { (b a : Actor) → pair_total b a rows.items < 2 ^ 32 }
@@ -22,16 +25,28 @@ pub fn sum_of_pairs(rows: Vec<PairCount>) -> PairCounts
     PairCounts::from_vec(rows)
 }
 
-/// Rows that count pairs are sorted, and each takes in the later ones of its pair.
-fn add_up_pairs(rows: &mut Vec<PairCount>)
+/// Rows that count pairs are added up in place. Time in proportion to n log m for n rows in m stretches that rise; where there is
+/// no memory for that, to n log n.
+pub fn add_up_pairs(rows: &mut Vec<PairCount>)
     requires stand { AllByRecursion (λ r. 0 < r.count) rows.old.items }
     requires fits { (b a : Actor) → pair_total b a rows.old.items < 2 ^ 32 }
     ensures rise { IsRising (λ r s. IsPairBelow r.owner r.target s.owner s.target) rows.new.items }
     ensures stand { AllByRecursion (λ r. 0 < r.count) rows.new.items }
     ensures totals { (b a : Actor) → pair_total b a rows.new.items ≡ pair_total b a rows.old.items }
 {
-    rows.sort_unstable_by(|r, s| compare_pairs(r, s));
+    sort_pairs(rows);
     rows.dedup_by(|next, last| take_in_pair(last, next));
+}
+
+/// The rows are sorted by their owners, then by their targets.
+fn sort_pairs(rows: &mut Vec<PairCount>)
+    ensures permutation { IsPermutation rows.old.items rows.new.items }
+    ensures sorted { IsSortedBy (λ r s. is_lt (compare_pairs (r.owner, r.target) (s.owner, s.target))) rows.new.items }
+{
+    match rows.sort_by(|r, s| compare_pairs(r, s)) {
+        Ok(()) => {}
+        Err(_) => rows.sort_unstable_by(|r, s| compare_pairs(r, s)),
+    }
 }
 
 /// Whether the next row counts the pair of the last one, whose count then takes in the next one's.

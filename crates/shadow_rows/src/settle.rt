@@ -1,83 +1,54 @@
 //! What becomes of the counts where a node is lost: what it told is taken back, and what others admitted from it is put in.
-ghost use Rattle.std.specs.Prelude.{◌≡◌, ◌+◌, ◌<◌, ◌≤◌, ◌^◌, ◌&&◌, if◌then◌else◌, ℕ, Option, None, Some};
+ghost use Rattle.std.specs.Prelude.{◌≡◌, ◌+◌, ◌<◌, ◌≤◌, ◌^◌, ℕ, true, Option, None, Some};
 ghost use Rattle.std.specs.List.{AllByRecursion};
-ghost use Rattle.crgc_ids.specs.Actor.{Actor, same_actor};
-ghost use Rattle.shadow_table.specs.Shadows.{ChangesShadows, shadow_at, with_admitted, without_told};
+ghost use Rattle.crgc_ids.specs.Actor.{Actor};
+ghost use Rattle.history_model.specs.Ledgers.{actor_total, pair_total};
+ghost use Rattle.shadow_table.specs.Shadows.{ChangesShadows, is_named, shadow_at, without_told};
 ghost use Rattle.shadow_rows.specs.Rows.{IsLogCovered, Settles};
 ghost use Rattle.shadow_rows.specs.Losing.{Corrects, LosesNodes, gain_before};
 ghost use Rattle.crgc_ids.specs.Members.{IsAmong};
-ghost use Rattle.shadow_rows.specs.Pairs.{ChangesEdges, KeepsEnds, edge_between, with_given, without_given};
-ghost use Rattle.shadow_rows.specs.Settled.{IsCovered};
+ghost use Rattle.shadow_rows.specs.Pairs.{ChangesEdges, KeepsEnds, edge_between, has_pair, with_given, without_given};
 ghost use Rattle.shadow_rows.specs.Tabled.{AreTabled};
-ghost use Rattle.undo_log.specs.Keys.{same_owner};
 ghost use Rattle.undo_log.specs.Told.{admitted_from};
-ghost use Rattle.undo_log.specs.Totals.{admitted_total, told_total};
 
 use crate::edges;
-use crgc_ids::{NodeId, NodeSet};
+use crgc_ids::{ActorCount, NodeId, NodeSet, PairCount};
 use edge_table::EdgeTable;
 use shadow_table::ShadowTable;
-use undo_log::{Correction, UndoLog};
+use undo_log::{Side, UndoLog};
 
-/// What the row says was told is taken back.
-fn take_back_row(shadows: &mut ShadowTable, edges: &mut EdgeTable, row: &Correction)
-    requires tabled { AreTabled shadows.old.names edges.old }
-    requires covered { IsCovered shadows.old.names edges.old.pairs row.now.owner row.now.target }
-    ensures shadows { ChangesShadows shadows.old shadows.new (λ a s.
-        without_told (if same_owner None row.now.owner && same_actor a row.now.target then row.now.told else 0) s) }
-    ensures edges { ChangesEdges edges.old edges.new (λ b a e.
-        without_given (if same_owner (Some b) row.now.owner && same_actor a row.now.target then row.now.told else 0) e) }
-{
-    let Some(owner) = row.owner else {
-        shadows.take_back(row.target, row.told);
-        return;
-    };
-    edges::take_back(shadows, edges, owner, row.target, row.told);
-}
-
-/// What the row says was admitted is put in.
-fn put_in_row(shadows: &mut ShadowTable, edges: &mut EdgeTable, row: &Correction)
-    requires tabled { AreTabled shadows.old.names edges.old }
-    requires covered { IsCovered shadows.old.names edges.old.pairs row.now.owner row.now.target }
-    requires admitted_fits { (a : Actor) → (shadow_at shadows.old a).admitted
-        + (if same_owner None row.now.owner && same_actor a row.now.target then row.now.admitted else 0) < 2 ^ 64 }
-    requires given_fits { (b a : Actor) → (edge_between edges.old b a).given
-        + (if same_owner (Some b) row.now.owner && same_actor a row.now.target then row.now.admitted else 0) < 2 ^ 64 }
-    ensures shadows { ChangesShadows shadows.old shadows.new (λ a s.
-        with_admitted (if same_owner None row.now.owner && same_actor a row.now.target then row.now.admitted else 0) s) }
-    ensures edges { ChangesEdges edges.old edges.new (λ b a e.
-        with_given (if same_owner (Some b) row.now.owner && same_actor a row.now.target then row.now.admitted else 0) e) }
-{
-    let Some(owner) = row.owner else {
-        shadows.admit(row.target, row.admitted);
-        return;
-    };
-    edges::give(shadows, edges, owner, row.target, row.admitted);
-}
-
-/// What the rows say was told is taken back. For each row time logarithmic in the number of edges.
-fn take_back_all(shadows: &mut ShadowTable, edges: &mut EdgeTable, rows: &[Correction])
-    requires tabled { AreTabled shadows.old.names edges.old }
-    requires covered { AllByRecursion (λ r. IsCovered shadows.old.names edges.old.pairs r.owner r.target) rows.now }
-    ensures shadows { ChangesShadows shadows.old shadows.new (λ a s. without_told (told_total None a rows.now) s) }
-    ensures edges { ChangesEdges edges.old edges.new (λ b a e. without_given (told_total (Some b) a rows.now) e) }
+/// The messages that the rows count are taken back, of those that were told. Linear time in the number of rows.
+fn take_back_messages(shadows: &mut ShadowTable, rows: &[ActorCount])
+    requires { AllByRecursion (λ r. is_named shadows.old.names r.actor ≡ true) rows.now }
+    ensures { ChangesShadows shadows.old shadows.new (λ a s. without_told (actor_total a rows.now) s) }
 {
     for row in rows {
-        take_back_row(shadows, edges, row);
+        shadows.take_back(row.actor, u64::from(row.count));
     }
 }
 
-/// What the rows say was admitted is put in. For each row time logarithmic in the number of edges.
-fn put_in_all(shadows: &mut ShadowTable, edges: &mut EdgeTable, rows: &[Correction])
-    requires tabled { AreTabled shadows.old.names edges.old }
-    requires covered { AllByRecursion (λ r. IsCovered shadows.old.names edges.old.pairs r.owner r.target) rows.now }
-    requires admitted_fits { (a : Actor) → (shadow_at shadows.old a).admitted + admitted_total None a rows.now < 2 ^ 64 }
-    requires given_fits { (b a : Actor) → (edge_between edges.old b a).given + admitted_total (Some b) a rows.now < 2 ^ 64 }
-    ensures shadows { ChangesShadows shadows.old shadows.new (λ a s. with_admitted (admitted_total None a rows.now) s) }
-    ensures edges { ChangesEdges edges.old edges.new (λ b a e. with_given (admitted_total (Some b) a rows.now) e) }
+/// The references that the rows count are taken back, of those that were given. For each row at most 2 * 8 looks at edges, and
+/// where that does not tell, time logarithmic in their number.
+fn take_back_pairs(shadows: &ShadowTable, edges: &mut EdgeTable, rows: &[PairCount])
+    requires tabled { AreTabled shadows.now.names edges.old }
+    requires there { AllByRecursion (λ r. has_pair edges.old.pairs r.owner r.target ≡ true) rows.now }
+    ensures { ChangesEdges edges.old edges.new (λ b a e. without_given (pair_total b a rows.now) e) }
 {
     for row in rows {
-        put_in_row(shadows, edges, row);
+        edges::take_back(shadows, edges, row.owner, row.target, u64::from(row.count));
+    }
+}
+
+/// The references that the rows count are given. For each row at most 2 * 8 looks at edges, and where that does not tell, time
+/// logarithmic in their number.
+fn put_in_pairs(shadows: &ShadowTable, edges: &mut EdgeTable, rows: &[PairCount])
+    requires tabled { AreTabled shadows.now.names edges.old }
+    requires there { AllByRecursion (λ r. has_pair edges.old.pairs r.owner r.target ≡ true) rows.now }
+    requires fits { (b a : Actor) → (edge_between edges.old b a).given + pair_total b a rows.now < 2 ^ 64 }
+    ensures { ChangesEdges edges.old edges.new (λ b a e. with_given (pair_total b a rows.now) e) }
+{
+    for row in rows {
+        edges::give(shadows, edges, row.owner, row.target, u64::from(row.count));
     }
 }
 
@@ -92,9 +63,10 @@ fn settle_node(shadows: &mut ShadowTable, edges: &mut EdgeTable, log: &UndoLog, 
     ensures names { shadows.new.names ≡ shadows.old.names }
     ensures ends { KeepsEnds edges.old edges.new }
 {
-    let rows = log.rows(node);
-    take_back_all(shadows, edges, rows);
-    put_in_all(shadows, edges, rows);
+    take_back_messages(shadows, log.messages(node, Side::Told));
+    take_back_pairs(shadows, edges, log.pairs(node, Side::Told));
+    shadows.admit_all(log.messages(node, Side::Admitted));
+    put_in_pairs(shadows, edges, log.pairs(node, Side::Admitted));
 }
 
 /// Each node that is lost now and was not before is settled. For each row noted of these nodes time logarithmic in the number of

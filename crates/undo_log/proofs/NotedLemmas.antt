@@ -1,17 +1,14 @@
 -- The rows that note counts, and what they add to the totals.
-use Rattle.std.proofs.Common.{◌≡◌, ◌+◌, ◌<◌, ◌^◌, ◌&&◌, ℕ, Bool, true, false, cond, List, [], ◌∷◌, ◌++◌, Option, Some, None, OnOk, Result, map, refl, sym, ◌∙◌, ap, subst, arith}
+use Rattle.std.proofs.Common.{◌≡◌, ◌+◌, ◌<◌, ◌^◌, ◌&&◌, ℕ, Bool, true, false, cond, List, [], ◌∷◌, ◌++◌, Option, Some, None, Result, Ok, Err, OnErr, OnOk, map, refl, sym, ◌∙◌, subst, arith}
 use Rattle.std.proofs.ByRecursion.{All-append}
-use Rattle.std.proofs.lemmas.Bool.{false≢true}
 use Rattle.std.proofs.lemmas.List.Sums.{sum_by-append, sum_by-cons}
 use Rattle.std.specs.List.{AllByRecursion, sum_by}
-use Rattle.std.specs.Result.{is_err}
-use Rattle.crgc_ids.proofs.SuccessLaws.{at_success}
 use Rattle.crgc_ids.specs.Actor.{Actor, same_actor}
 use Rattle.crgc_ids.specs.declared.rising.ActorCount.{ActorCount}
 use Rattle.crgc_ids.specs.declared.rising.PairCount.{PairCount}
 use Rattle.undo_log.specs.Keys.{same_owner}
-use Rattle.undo_log.specs.Noted.{NotesMore, message_rows, noted_count, other_total, pair_rows, row_on, side_total}
-use Rattle.undo_log.specs.Totals.{HaveRoom, HaveTotalsOf, admitted_total, told_total}
+use Rattle.undo_log.specs.Noted.{NotesMore, SideRows, message_rows, noted_count, other_total, pair_rows, row_on, rows_noted, side_total}
+use Rattle.undo_log.specs.Totals.{HaveRoom, admitted_total, told_total}
 use Rattle.undo_log.specs.declared.corrections.Correction.{Correction}
 use Rattle.undo_log.specs.declared.corrections.Side.{Side}
 use Rattle.undo_log.specs.declared.corrections.Side.TheVariants.{Admitted, Told}
@@ -90,51 +87,63 @@ other-append : (side : Side) (owner : Option Actor) (target : Actor) (xs ys : Li
 other-append Told owner target xs ys = sum_by-append (admitted_in owner target) xs ys
 other-append Admitted owner target xs ys = sum_by-append (told_in owner target) xs ys
 
--- rows that were pushed come last
-pub pushed : {A E : Type 0} (old new : List Correction) (side : Side) (messages ms : List ActorCount) (pairs ps : List PairCount) (r : Result A E) (b : Bool) → b ≡ is_err r → b ≡ false → ms ≡ messages → ps ≡ pairs → OnOk r (new ≡ old ++ (message_rows side ms ++ pair_rows side ps)) → new ≡ old ++ (message_rows side messages ++ pair_rows side pairs)
-pushed old new side messages ms pairs ps r b tells fine same_messages same_pairs ok =
-    at_success _ r (λ e failed. false≢true (sym fine ∙ tells ∙ ap is_err failed)) ok
-    ∙ ap (λ rows. old ++ (message_rows side rows ++ pair_rows side ps)) same_messages
-    ∙ ap (λ rows. old ++ (message_rows side messages ++ pair_rows side rows)) same_pairs
+-- what is counted on a side is what that side's rows count
+pub told-noted : (owner : Option Actor) (target : Actor) (told admitted : SideRows) → told_total owner target (rows_noted told admitted) ≡ noted_count owner target told.messages told.pairs
+told-noted owner target told admitted =
+    let parts = side-append Told owner target (message_rows Told told.messages ++ pair_rows Told told.pairs) (message_rows Admitted admitted.messages ++ pair_rows Admitted admitted.pairs) in
+    let here = noted-side Told owner target told.messages told.pairs in
+    let there = noted-other Admitted owner target admitted.messages admitted.pairs in
+    omega arith
 
--- so they note the counts
-pub notes_more : (old new : List Correction) (side : Side) (messages : List ActorCount) (pairs : List PairCount) → new ≡ old ++ (message_rows side messages ++ pair_rows side pairs) → NotesMore old new side messages pairs
-notes_more old new side messages pairs is =
-    let more = message_rows side messages ++ pair_rows side pairs in
-    record {
-      noted = λ owner target.
-          ap (side_total side owner target) is ∙ side-append side owner target old more ∙ ap (λ n. side_total side owner target old + n) (noted-side side owner target messages pairs);
-      others = λ owner target. (
-          let whole = ap (other_total side owner target) is in
-          let parts = other-append side owner target old more in
-          let none = noted-other side owner target messages pairs in
-          omega arith
-          );
-    }
+pub admitted-noted : (owner : Option Actor) (target : Actor) (told admitted : SideRows) → admitted_total owner target (rows_noted told admitted) ≡ noted_count owner target admitted.messages admitted.pairs
+admitted-noted owner target told admitted =
+    let parts = side-append Admitted owner target (message_rows Told told.messages ++ pair_rows Told told.pairs) (message_rows Admitted admitted.messages ++ pair_rows Admitted admitted.pairs) in
+    let here = noted-side Admitted owner target admitted.messages admitted.pairs in
+    let there = noted-other Told owner target told.messages told.pairs in
+    omega arith
 
--- rows that are added up afterwards note the same
-pub notes-summed : (old middle new : List Correction) (side : Side) (messages : List ActorCount) (pairs : List PairCount) → NotesMore old middle side messages pairs → HaveTotalsOf middle new → NotesMore old new side messages pairs
-notes-summed old middle new Told messages pairs notes same = record {
-  noted = λ owner target. same.told owner target ∙ notes.noted owner target;
-  others = λ owner target. same.admitted owner target ∙ notes.others owner target;
+-- rows that count so much more on one side, and as much as before on the other, note the counts
+abbrev CountsMore : SideRows → SideRows → List ActorCount → List PairCount → Type 0
+CountsMore old new messages pairs = (owner : Option Actor) (target : Actor) → noted_count owner target new.messages new.pairs
+    ≡ noted_count owner target old.messages old.pairs + noted_count owner target messages pairs
+
+pub told-more : (told told' admitted : SideRows) (messages : List ActorCount) (pairs : List PairCount) → CountsMore told told' messages pairs → NotesMore (rows_noted told admitted) (rows_noted told' admitted) Told messages pairs
+told-more told told' admitted messages pairs more = record {
+  noted = λ owner target. (
+      let old = told-noted owner target told admitted in
+      let new = told-noted owner target told' admitted in
+      let here = more owner target in
+      omega arith
+      );
+  others = λ owner target. admitted-noted owner target told' admitted ∙ sym (admitted-noted owner target told admitted);
 }
-notes-summed old middle new Admitted messages pairs notes same = record {
-  noted = λ owner target. same.admitted owner target ∙ notes.noted owner target;
-  others = λ owner target. same.told owner target ∙ notes.others owner target;
+
+pub admitted-more : (told admitted admitted' : SideRows) (messages : List ActorCount) (pairs : List PairCount) → CountsMore admitted admitted' messages pairs → NotesMore (rows_noted told admitted) (rows_noted told admitted') Admitted messages pairs
+admitted-more told admitted admitted' messages pairs more = record {
+  noted = λ owner target. (
+      let old = admitted-noted owner target told admitted in
+      let new = admitted-noted owner target told admitted' in
+      let here = more owner target in
+      omega arith
+      );
+  others = λ owner target. told-noted owner target told admitted' ∙ sym (told-noted owner target told admitted);
 }
 
 -- where the sums have room, so do the rows
-pub room-more : (old new : List Correction) (side : Side) (messages : List ActorCount) (pairs : List PairCount) → HaveRoom old → AllByRecursion (λ r. 0 < r.count) messages → AllByRecursion (λ r. 0 < r.count) pairs → ((owner : Option Actor) (target : Actor) → side_total side owner target old + noted_count owner target messages pairs < 2 ^ 63) → new ≡ old ++ (message_rows side messages ++ pair_rows side pairs) → HaveRoom new
-room-more old new side messages pairs room some_messages some_pairs fits is =
-    let notes = notes_more old new side messages pairs is in
-    let sums = both side notes fits in
-    record {
-      stand = subst (AllByRecursion (λ r. 0 < r.told + r.admitted)) (sym is)
-          (All-append (λ (r : Correction). 0 < r.told + r.admitted) old (message_rows side messages ++ pair_rows side pairs) room.stand
-          (All-append (λ (r : Correction). 0 < r.told + r.admitted) (message_rows side messages) (pair_rows side pairs) (all_messages messages some_messages) (all_pairs pairs some_pairs)));
-      told = λ owner target. (sums owner target).0;
-      admitted = λ owner target. (sums owner target).1;
-    }
+pub room-more : (old new : List Correction) (side : Side) (messages : List ActorCount) (pairs : List PairCount) → HaveRoom old → ((owner : Option Actor) (target : Actor) → side_total side owner target old + noted_count owner target messages pairs < 2 ^ 63) → NotesMore old new side messages pairs → HaveRoom new
+room-more old new Told messages pairs room fits notes = record {
+  told = λ owner target. subst (λ n. n < 2 ^ 63) (sym (notes.noted owner target)) (fits owner target);
+  admitted = λ owner target. subst (λ n. n < 2 ^ 63) (sym (notes.others owner target)) (room.admitted owner target);
+}
+room-more old new Admitted messages pairs room fits notes = record {
+  told = λ owner target. subst (λ n. n < 2 ^ 63) (sym (notes.others owner target)) (room.told owner target);
+  admitted = λ owner target. subst (λ n. n < 2 ^ 63) (sym (notes.noted owner target)) (fits owner target);
+}
+
+-- rows of counts that stand do
+pub rows-stand : (side : Side) (messages : List ActorCount) (pairs : List PairCount) → AllByRecursion (λ r. 0 < r.count) messages → AllByRecursion (λ r. 0 < r.count) pairs → AllByRecursion (λ r. 0 < r.told + r.admitted) (message_rows side messages ++ pair_rows side pairs)
+rows-stand side messages pairs some_messages some_pairs =
+    All-append (λ (r : Correction). 0 < r.told + r.admitted) (message_rows side messages) (pair_rows side pairs) (all_messages messages some_messages) (all_pairs pairs some_pairs)
   where
     counts : (side : Side) (owner : Option Actor) (target : Actor) (count : ℕ) → 0 < count → 0 < (row_on side owner target count).told + (row_on side owner target count).admitted
     counts Told owner target count some = omega arith
@@ -148,8 +157,22 @@ room-more old new side messages pairs room some_messages some_pairs fits is =
     all_pairs [] some = tt
     all_pairs (r ∷ rows) some = (counts side (Some r.owner) r.target r.count some.0, all_pairs rows some.1)
 
-    both : (side : Side) → NotesMore old new side messages pairs → ((owner : Option Actor) (target : Actor) → side_total side owner target old + noted_count owner target messages pairs < 2 ^ 63) → (owner : Option Actor) (target : Actor) → (told_total owner target new < 2 ^ 63) × (admitted_total owner target new < 2 ^ 63)
-    both Told notes fits owner target =
-        (subst (λ n. n < 2 ^ 63) (sym (notes.noted owner target)) (fits owner target), subst (λ n. n < 2 ^ 63) (sym (notes.others owner target)) (room.admitted owner target))
-    both Admitted notes fits owner target =
-        (subst (λ n. n < 2 ^ 63) (sym (notes.others owner target)) (room.told owner target), subst (λ n. n < 2 ^ 63) (sym (notes.noted owner target)) (fits owner target))
+-- a call that notes the counts on one side, or leaves it as it was, keeps the room
+pub told-room : {T E : Type 0} (r : Result T E) (told told' admitted : SideRows) (messages : List ActorCount) (pairs : List PairCount) → HaveRoom (rows_noted told admitted) → ((owner : Option Actor) (target : Actor) → told_total owner target (rows_noted told admitted) + noted_count owner target messages pairs < 2 ^ 63) → OnOk r (CountsMore told told' messages pairs) → OnErr r (told' ≡ told) → HaveRoom (rows_noted told' admitted)
+told-room (Ok x) told told' admitted messages pairs room fits more same =
+    room-more (rows_noted told admitted) (rows_noted told' admitted) Told messages pairs room fits (told-more told told' admitted messages pairs more)
+told-room (Err e) told told' admitted messages pairs room fits more same = subst (λ rows. HaveRoom (rows_noted rows admitted)) (sym same) room
+
+pub admitted-room : {T E : Type 0} (r : Result T E) (told admitted admitted' : SideRows) (messages : List ActorCount) (pairs : List PairCount) → HaveRoom (rows_noted told admitted) → ((owner : Option Actor) (target : Actor) → admitted_total owner target (rows_noted told admitted) + noted_count owner target messages pairs < 2 ^ 63) → OnOk r (CountsMore admitted admitted' messages pairs) → OnErr r (admitted' ≡ admitted) → HaveRoom (rows_noted told admitted')
+admitted-room (Ok x) told admitted admitted' messages pairs room fits more same =
+    room-more (rows_noted told admitted) (rows_noted told admitted') Admitted messages pairs room fits (admitted-more told admitted admitted' messages pairs more)
+admitted-room (Err e) told admitted admitted' messages pairs room fits more same = subst (λ rows. HaveRoom (rows_noted told rows)) (sym same) room
+
+-- and where it notes them, so do the rows
+pub told-notes : {T E : Type 0} (r : Result T E) (told told' admitted : SideRows) (messages : List ActorCount) (pairs : List PairCount) → OnOk r (CountsMore told told' messages pairs) → OnOk r (NotesMore (rows_noted told admitted) (rows_noted told' admitted) Told messages pairs)
+told-notes (Ok x) told told' admitted messages pairs more = told-more told told' admitted messages pairs more
+told-notes (Err e) told told' admitted messages pairs more = tt
+
+pub admitted-notes : {T E : Type 0} (r : Result T E) (told admitted admitted' : SideRows) (messages : List ActorCount) (pairs : List PairCount) → OnOk r (CountsMore admitted admitted' messages pairs) → OnOk r (NotesMore (rows_noted told admitted) (rows_noted told admitted') Admitted messages pairs)
+admitted-notes (Ok x) told admitted admitted' messages pairs more = admitted-more told admitted admitted' messages pairs more
+admitted-notes (Err e) told admitted admitted' messages pairs more = tt

@@ -25,9 +25,16 @@ message_rows side messages = map (λ r. row_on side None r.actor r.count) messag
 abbrev pub pair_rows : Side → List PairCount → List Correction
 pair_rows side pairs = map (λ r. row_on side (Some r.owner) r.target r.count) pairs
 
--- rows that begin with others
-abbrev pub Extends : List Correction → List Correction → Type 0
-Extends old new = (more : List Correction) × (new ≡ old ++ more)
+-- what is noted on one side
+pub record SideRows : Type 0 where
+  pub messages : List ActorCount
+  pub pairs : List PairCount
+
+-- the rows that count as much as those of both sides
+abbrev pub rows_noted : SideRows → SideRows → List Correction
+rows_noted told admitted =
+    (message_rows Told told.messages ++ pair_rows Told told.pairs)
+    ++ (message_rows Admitted admitted.messages ++ pair_rows Admitted admitted.pairs)
 
 -- how often rows count something on this side, and on the other one
 abbrev pub side_total : Side → Option Actor → Actor → List Correction → ℕ

@@ -45,9 +45,10 @@ pub enum Side {
 }
 
 /// The rows are sorted, and each takes in the later ones of its key. Time in proportion to n log m for n rows in m stretches that
-/// rise, as those that one bulletin notes do; where there is no memory for that, to n log n.
+/// rise; where there is no memory for that, to n log n.
 pub fn add_up(rows: &mut Vec<Correction>)
-    requires { HaveRoom rows.old.items }
+    requires stand { AllByRecursion (λ r. 0 < r.told + r.admitted) rows.old.items }
+    requires room { HaveRoom rows.old.items }
     ensures rise { IsRising (λ r s. IsKeyBelow (r.owner, r.target) (s.owner, s.target)) rows.new.items }
     ensures stand { AllByRecursion (λ r. 0 < r.told + r.admitted) rows.new.items }
     ensures totals { HaveTotalsOf rows.old.items rows.new.items }

@@ -3,7 +3,8 @@
 
 mod corrections;
 mod node_log;
+mod side_log;
 mod undo_log;
 
-pub use corrections::{Correction, Corrections};
+pub use corrections::{Correction, Corrections, Side};
 pub use undo_log::UndoLog;

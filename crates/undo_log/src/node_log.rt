@@ -1,32 +1,37 @@
 //! What one node told, and what others admitted from it.
-ghost use Rattle.std.specs.Prelude.{◌≡◌, ◌+◌, ◌<◌, ◌^◌, [], ◌++◌, Option, IfOk, OnErr, OnOk};
+ghost use Rattle.std.specs.Prelude.{◌≡◌, ◌+◌, ◌<◌, ◌^◌, [], ◌++◌, Option, None, Some, IfOk, OnErr, OnOk};
+ghost use Rattle.std.specs.List.{AllByRecursion};
 ghost use Rattle.crgc_ids.specs.Actor.{Actor};
-ghost use Rattle.undo_log.specs.Noted.{Extends, NotesMore, message_rows, noted_count, pair_rows, row_on, side_total};
-ghost use Rattle.undo_log.specs.Totals.{HaveRoom, HaveTotalsOf};
+ghost use Rattle.row_sums.specs.Totals.{actor_total, pair_total};
+ghost use Rattle.undo_log.specs.Noted.{NotesMore, message_rows, noted_count, pair_rows, row_on, side_total};
+ghost use Rattle.undo_log.specs.Totals.{HaveTotalsOf};
 
 use crate::corrections::{Correction, Corrections, Side, add_up};
+use crate::side_log::SideLog;
 use crgc_ids::{ActorCount, ActorCounts, ActorId, NoMemory, PairCount, PairCounts};
 use std::alloc::Global;
 use std::marker::Model;
 
-/// Rows as they came, added up each time that there are four times as many. It keeps its allocator. Contracts see the rows.
+/// What a node told, and what others admitted from it, apart. It keeps its allocator. Contracts see the rows of corrections that
+/// count as much.
 #[derive(Drop)]
 pub struct NodeLog {
     alloc: Global,
-    rows: Vec<Correction>,
-    added_up: usize,
+    told: SideLog,
+    admitted: SideLog,
 }
 
 impl Model for NodeLog {
     ghost use Rattle.std.specs.Prelude.{List};
     ghost use Rattle.undo_log.specs.declared.corrections.Correction.{Correction};
+    ghost use Rattle.undo_log.specs.Noted.{rows_noted};
     ghost use Rattle.undo_log.specs.Totals.{HaveRoom};
 
     ghost Value = { List Correction };
 
-    ghost view = { λ l. l.rows.items };
+    ghost view = { λ l. rows_noted l.told l.admitted };
 
-    ghost invariant = { λ l. HaveRoom l.rows.items };
+    ghost invariant = { λ l. HaveRoom (rows_noted l.told l.admitted) };
 }
 
 impl NodeLog {
@@ -36,13 +41,13 @@ impl NodeLog {
     {
         NodeLog {
             alloc,
-            rows: Vec::new(alloc),
-            added_up: 0,
+            told: SideLog::new(alloc),
+            admitted: SideLog::new(alloc),
         }
     }
 
     /// What the rows count is noted on this side. After `NoMemory` all is as before. Amortized time in proportion to the
-    /// logarithm of the number of noted rows, for each row.
+    /// logarithm of the number of noted bulletins, for each row.
     pub fn note(
         &mut self,
         side: Side,
@@ -54,54 +59,64 @@ impl NodeLog {
         ensures ok { OnOk result (NotesMore self.old self.new side messages.now pairs.now) }
         ensures err { OnErr result (self.new ≡ self.old) }
     {
-        let before = self.rows.len();
-        if push_rows(&mut self.rows, side, messages.as_slice(), pairs.as_slice()).is_err() {
-            self.rows.truncate(before);
-            return Err(NoMemory);
-        }
-        self.add_up_if_many();
-        Ok(())
-    }
-
-    /// Where there are four times as many rows as after the last time, they are added up.
-    fn add_up_if_many(&mut self)
-        ensures { HaveTotalsOf self.old self.new }
-    {
-        if self.rows.len() / 4 > self.added_up {
-            add_up(&mut self.rows);
-            self.added_up = self.rows.len();
+        match side {
+            Side::Told => self.told.note(messages, pairs),
+            Side::Admitted => self.admitted.note(messages, pairs),
         }
     }
 
-    /// The rows, as they came or added up.
-    pub fn rows(&self) -> &[Correction]
-        ensures value { result.now ≡ self.now }
-        ensures room { HaveRoom self.now }
+    /// The rows that count messages on this side.
+    pub fn messages(&self, side: Side) -> &[ActorCount]
+        ensures counts { (a : Actor) → actor_total a result.now ≡ side_total side None a self.now }
+        ensures stand { AllByRecursion (λ r. 0 < r.count) result.now }
     {
-        self.rows.as_slice()
+        match side {
+            Side::Told => self.told.messages(),
+            Side::Admitted => self.admitted.messages(),
+        }
     }
 
-    /// The rows added up. Time in proportion to n log n for n rows.
+    /// The rows that count pairs on this side.
+    pub fn pairs(&self, side: Side) -> &[PairCount]
+        ensures counts { (b a : Actor) → pair_total b a result.now ≡ side_total side (Some b) a self.now }
+        ensures stand { AllByRecursion (λ r. 0 < r.count) result.now }
+    {
+        match side {
+            Side::Told => self.told.pairs(),
+            Side::Admitted => self.admitted.pairs(),
+        }
+    }
+
+    /// What is noted, added up. Time in proportion to n log n for n rows.
     pub fn settle(&self) -> Result<Corrections, NoMemory>
         ensures { IfOk result (λ corrections. HaveTotalsOf self.now corrections) }
     {
-        let Ok(mut rows) = Vec::from_slice(self.alloc, self.rows.as_slice()) else {
-            return Err(NoMemory);
-        };
+        let mut rows = Vec::new(self.alloc);
+        push_rows(
+            &mut rows,
+            Side::Told,
+            self.told.messages(),
+            self.told.pairs(),
+        )?;
+        push_rows(
+            &mut rows,
+            Side::Admitted,
+            self.admitted.messages(),
+            self.admitted.pairs(),
+        )?;
         add_up(&mut rows);
         Ok(Corrections::from_vec(rows))
     }
 }
 
-/// The rows that note these counts come last. After `NoMemory` the rows begin with those before.
+/// The rows that note these counts come last.
 fn push_rows(
     rows: &mut Vec<Correction>,
     side: Side,
     messages: &[ActorCount],
     pairs: &[PairCount],
 ) -> Result<(), NoMemory>
-    ensures ok { OnOk result (rows.new.items ≡ rows.old.items ++ (message_rows side messages.now ++ pair_rows side pairs.now)) }
-    ensures err { OnErr result (Extends rows.old.items rows.new.items) }
+    ensures { OnOk result (rows.new.items ≡ rows.old.items ++ (message_rows side messages.now ++ pair_rows side pairs.now)) }
 {
     for message in messages {
         let row = row_on(side, None, message.actor, message.count);
@@ -112,10 +127,9 @@ fn push_rows(
     push_pairs(rows, side, pairs)
 }
 
-/// The rows that note the counts of pairs come last. After `NoMemory` the rows begin with those before.
+/// The rows that note the counts of pairs come last.
 fn push_pairs(rows: &mut Vec<Correction>, side: Side, pairs: &[PairCount]) -> Result<(), NoMemory>
-    ensures ok { OnOk result (rows.new.items ≡ rows.old.items ++ pair_rows side pairs.now) }
-    ensures err { OnErr result (Extends rows.old.items rows.new.items) }
+    ensures { OnOk result (rows.new.items ≡ rows.old.items ++ pair_rows side pairs.now) }
 {
     for pair in pairs {
         let row = row_on(side, Some(pair.owner), pair.target, pair.count);

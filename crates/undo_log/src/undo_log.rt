@@ -1,14 +1,16 @@
 //! What each node told, and what others admitted from it.
-ghost use Rattle.std.specs.Prelude.{◌≡◌, ◌+◌, ◌<◌, ◌^◌, ℕ, [], Option, IfOk, OnErr, OnOk};
+ghost use Rattle.std.specs.Prelude.{◌≡◌, ◌+◌, ◌<◌, ◌^◌, ℕ, [], Option, None, Some, IfOk, OnErr, OnOk};
+ghost use Rattle.std.specs.List.{AllByRecursion};
 ghost use Rattle.crgc_ids.specs.Actor.{Actor};
-ghost use Rattle.undo_log.specs.Noted.{noted_count};
+ghost use Rattle.row_sums.specs.Totals.{actor_total, pair_total};
+ghost use Rattle.undo_log.specs.Noted.{noted_count, side_total};
 ghost use Rattle.undo_log.specs.Told.{Notes, admitted_from, rows_of, told_by};
-ghost use Rattle.undo_log.specs.Totals.{HaveRoom, HaveTotalsOf};
+ghost use Rattle.undo_log.specs.Totals.{HaveTotalsOf};
 ghost use Rattle.undo_log.specs.declared.corrections.Side.TheVariants.{Admitted, Told};
 
-use crate::corrections::{Correction, Corrections, Side};
+use crate::corrections::{Corrections, Side};
 use crate::node_log::NodeLog;
-use crgc_ids::{ActorCounts, NoMemory, NodeId, PairCounts};
+use crgc_ids::{ActorCount, ActorCounts, NoMemory, NodeId, PairCount, PairCounts};
 use std::alloc::Global;
 use std::array;
 use std::marker::Model;
@@ -42,7 +44,7 @@ impl UndoLog {
     }
 
     /// The sends and the created pairs of a Delta of the node are noted. After `NoMemory` all is as before. Amortized time
-    /// in proportion to the logarithm of the number of rows noted of the node, for each row.
+    /// in proportion to the logarithm of the number of bulletins noted of the node, for each row.
     pub fn note_told(
         &mut self,
         node: NodeId,
@@ -58,7 +60,7 @@ impl UndoLog {
     }
 
     /// The messages and the carried pairs of a Window or Final of a link from the node are noted. After `NoMemory` all is as
-    /// before. Amortized time in proportion to the logarithm of the number of rows noted of the node, for each row.
+    /// before. Amortized time in proportion to the logarithm of the number of bulletins noted of the node, for each row.
     pub fn note_admitted(
         &mut self,
         from: NodeId,
@@ -73,12 +75,20 @@ impl UndoLog {
         self.logs[from.get() as usize].note(Side::Admitted, messages, carried)
     }
 
-    /// The rows noted of the node, in some order and some of them added up, without memory.
-    pub fn rows(&self, node: NodeId) -> &[Correction]
-        ensures value { result.now ≡ rows_of self.now node }
-        ensures room { HaveRoom (rows_of self.now node) }
+    /// The rows that count the messages that the node told, or that others admitted from it, in some order.
+    pub fn messages(&self, node: NodeId, side: Side) -> &[ActorCount]
+        ensures counts { (a : Actor) → actor_total a result.now ≡ side_total side None a (rows_of self.now node) }
+        ensures stand { AllByRecursion (λ r. 0 < r.count) result.now }
     {
-        self.logs[node.get() as usize].rows()
+        self.logs[node.get() as usize].messages(side)
+    }
+
+    /// The rows that count the pairs that the node told, or that others admitted from it, in some order.
+    pub fn pairs(&self, node: NodeId, side: Side) -> &[PairCount]
+        ensures counts { (b a : Actor) → pair_total b a result.now ≡ side_total side (Some b) a (rows_of self.now node) }
+        ensures stand { AllByRecursion (λ r. 0 < r.count) result.now }
+    {
+        self.logs[node.get() as usize].pairs(side)
     }
 
     /// What the node told and what others admitted from it, each thing once. Time in proportion to n log n for n rows noted

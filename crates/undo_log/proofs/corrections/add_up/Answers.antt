@@ -15,10 +15,10 @@ returns c =
     let sorted = c.sort.ensures.sorted in
     let told_sum = is_sum IsKeyBelow same_key key told (2 ^ 63) key_order _
     (λ s next last b t next' last' h. takes_in same_key key told (2 ^ 63) 18446744073709551615 (omega arith) next last b next' last' (summed next last) refl refl (search rules) (search rules) (search rules))
-    _ (λ x y. keys-sorted (key x) (key y)) _ _ _ _ (λ t. c.requires.told t.0 t.1) c.sort.ensures.permutation sorted c.dedup_by.ensures.filtered.told in
+    _ (λ x y. keys-sorted (key x) (key y)) _ _ _ _ (λ t. c.requires.room.told t.0 t.1) c.sort.ensures.permutation sorted c.dedup_by.ensures.filtered.told in
     let admitted_sum = is_sum IsKeyBelow same_key key admitted (2 ^ 63) key_order _
     (λ s next last b t next' last' h. takes_in same_key key admitted (2 ^ 63) 18446744073709551615 (omega arith) next last b next' last' (summed next last) refl refl (search rules) (search rules) (search rules))
-    _ (λ x y. keys-sorted (key x) (key y)) _ _ _ _ (λ t. c.requires.admitted t.0 t.1) c.sort.ensures.permutation sorted c.dedup_by.ensures.filtered.told in
+    _ (λ x y. keys-sorted (key x) (key y)) _ _ _ _ (λ t. c.requires.room.admitted t.0 t.1) c.sort.ensures.permutation sorted c.dedup_by.ensures.filtered.told in
     let stand = kept_in_sums (λ (r : Correction). 0 < r.told + r.admitted) _
     (λ s next last b t next' last' h. still_counts next last b next' last' (search rules) (search rules))
     _ _ _ _ c.requires.stand c.sort.ensures.permutation c.dedup_by.ensures.filtered.told in

@@ -1,0 +1,22 @@
+use Rattle.std.proofs.Common.{ap, arith, refl}
+use Rattle.crgc_ids.specs.Actor.{Actor}
+use Rattle.crgc_ids.specs.declared.rising.PairCount.{PairCount}
+use Rattle.edge_table.specs.Table.{same_pair}
+use Rattle.edge_table.specs.declared.table.Edge.{Edge}
+use Rattle.shadow_table.proofs.RowLemmas.{total-fits}
+use Rattle.shadow_rows.proofs.PairLemmas.{same_pair-decides}
+use Rattle.shadow_rows.proofs.AddedLemmas.{tabled-counted}
+use Rattle.shadow_rows.proofs.settle.put_in_pairs.Goals as goal
+
+pub give-requires-clause-tabled : goal.give-requires-clause-tabled
+give-requires-clause-tabled c =
+    tabled-counted c.args.shadows.now.names c.args.shadows.now.names c.args.edges.now c.loop-row.edges refl c.loop-row.invariant.ends c.requires.tabled
+
+pub give-requires-clause-fits : goal.give-requires-clause-fits
+give-requires-clause-fits c =
+    let row = c.row-item.result in
+    let so_far = ap (λ (e : Edge). e.given) (c.loop-row.invariant.edges row.owner row.target) in
+    let whole = c.requires.fits row.owner row.target in
+    let one = c.from.ensures in
+    let part = total-fits {K = Actor × Actor} same_pair (λ (r : PairCount). (r.owner, r.target)) (λ (r : PairCount). r.count) c.args.rows.now c.loop-row.row-index row c.loop-row-test.true c.row-item.is ((same_pair-decides (row.owner, row.target) (row.owner, row.target)).1 refl) in
+    omega arith

@@ -1,0 +1,7 @@
+use Rattle.std.proofs.Common.{take}
+use Rattle.history_model.specs.Ledgers.{pair_total}
+use Rattle.shadow_rows.specs.Pairs.{ChangesEdges, with_given}
+use Rattle.shadow_rows.proofs.settle.put_in_pairs.Given as goal
+
+abbrev pub invariant-loop-row : goal.invariant-loop-row
+invariant-loop-row l = ChangesEdges l.initial.edges l.edges (λ b a e. with_given (pair_total b a (take l.row-index l.rows)) e)

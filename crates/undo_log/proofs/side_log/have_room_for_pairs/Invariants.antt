@@ -1,0 +1,7 @@
+use Rattle.std.proofs.Common.{◌+◌, ◌≤◌, take}
+use Rattle.crgc_ids.specs.Actor.{Actor}
+use Rattle.row_sums.specs.Totals.{pair_total}
+use Rattle.undo_log.proofs.side_log.have_room_for_pairs.Given as goal
+
+abbrev pub invariant-loop-row : goal.invariant-loop-row
+invariant-loop-row l = (b a : Actor) → pair_total b a (take l.row-index l.rows) + l.room ≤ 4294967295
