@@ -13,10 +13,12 @@ use std::marker::Model;
 
 /// What the mark of each place stands on, and the places that are to be looked at. Whoever changes the graph touches each place
 /// whose mark may no longer be right: one that became a start or is none any more, and one to which an edge leads whose sign
-/// changed. Contracts see the supports and the sets of places that are touched, queued and fallen.
+/// changed. Beside each support stands where its edge was among those to the place, so that one look tells whether it still
+/// leads there. Contracts see the supports and the sets of places that are touched, queued and fallen.
 #[derive(Drop)]
 pub struct KeptMarks {
     supports: Vec<Option<u32>>,
+    indices: Vec<u32>,
     touched: PlaceSet,
     queued: PlaceSet,
     fallen: PlaceSet,
@@ -44,6 +46,7 @@ impl KeptMarks {
     {
         KeptMarks {
             supports: Vec::new(alloc),
+            indices: Vec::new(alloc),
             touched: PlaceSet::new(alloc),
             queued: PlaceSet::new(alloc),
             fallen: PlaceSet::new(alloc),
@@ -70,6 +73,9 @@ impl KeptMarks {
         let places = places as usize;
         if places <= self.supports.len() {
             return Ok(());
+        }
+        if self.indices.resize(places, 0).is_err() {
+            return Err(NoMemory);
         }
         match self.supports.resize(places, None) {
             Ok(()) => Ok(()),
@@ -185,7 +191,8 @@ impl KeptMarks {
             self.queued.put(place);
             return true;
         }
-        if stands(graph, self.supports.as_slice(), place) {
+        let edge = index_at(self.indices.as_slice(), place);
+        if stands(graph, self.supports.as_slice(), place, edge) {
             return true;
         }
         self.supports[index] = None;
@@ -228,11 +235,12 @@ impl KeptMarks {
         let Some(place) = self.queued.pop() else {
             return false;
         };
-        let Some(support) = find_support(graph, self.supports.as_slice(), place) else {
+        let Some((support, edge)) = find_support(graph, self.supports.as_slice(), place) else {
             self.fallen.put(place);
             return true;
         };
         self.supports[place as usize] = Some(support);
+        note_index(self.indices.as_mut_slice(), place, edge);
         put_targets(
             graph,
             self.supports.as_slice(),
@@ -241,5 +249,24 @@ impl KeptMarks {
             None,
         );
         true
+    }
+}
+
+/// Where the edge of the place's support was among those to the place, or any number: a mark of which it does not tell the edge is
+/// supported anew.
+fn index_at(indices: &[u32], place: u32) -> usize {
+    match indices.get(place as usize) {
+        Some(index) => *index as usize,
+        None => 0,
+    }
+}
+
+/// The edge of the place's support has this index among those to the place.
+fn note_index(indices: &mut [u32], place: u32, index: usize) {
+    let Ok(index) = u32::try_from(index) else {
+        return;
+    };
+    if let Some(noted) = indices.get_mut(place as usize) {
+        *noted = index;
     }
 }

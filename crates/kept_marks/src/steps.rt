@@ -1,14 +1,16 @@
 //! What one place stands on, and what hangs on it.
 ghost use Rattle.std.specs.Prelude.{◌≡◌, ◌⊎◌, ◌<◌, ◌≤◌, ◌↔◌, ℕ, true, None, Some, IfNone, IfSome, IsTrue, length};
-ghost use Rattle.place_marks.specs.Graph.{IsGraph};
+ghost use Rattle.place_marks.specs.Graph.{IsGraph, IsStep};
 ghost use Rattle.kept_marks.specs.PlaceSet.{has_place};
 ghost use Rattle.kept_marks.specs.Kept.{AddsTarget, AddsTargets, IsSupport, IsUnsupported, support_of};
 
 use crate::place_set::PlaceSet;
 use place_marks::PlaceGraph;
 
-/// Whether the mark of the place stands: it has a support, which can support it.
-pub fn stands<G: PlaceGraph>(graph: &G, supports: &[Option<u32>], place: u32) -> bool
+/// Whether the mark of the place stands: it has a support, which can support it. The edge from an owner is looked for only at this
+/// index, so where it stands at another one the answer is no. Constant time.
+pub fn stands<G: PlaceGraph>(graph: &G, supports: &[Option<u32>], place: u32, index: usize) -> bool
+    requires whole { IsGraph (G.graph graph.now) }
     requires room { (G.graph graph.now).places ≤ length supports.now }
     requires place { place < (G.graph graph.now).places }
     requires within { (b : ℕ) → support_of supports.now place ≡ Some b → b < (G.graph graph.now).places }
@@ -23,27 +25,47 @@ pub fn stands<G: PlaceGraph>(graph: &G, supports: &[Option<u32>], place: u32) ->
     if supports[support as usize].is_none() {
         return false;
     }
-    graph.has_step(support, place)
+    has_owner(graph, place, index, support)
+}
+
+/// Whether the edge with this index, of those to the place, is positive and leads from the owner.
+fn has_owner<G: PlaceGraph>(graph: &G, place: u32, index: usize, owner: u32) -> bool
+    requires whole { IsGraph (G.graph graph.now) }
+    requires place { place < (G.graph graph.now).places }
+    ensures { IsTrue result → IsStep (G.graph graph.now) owner place }
+{
+    if index >= graph.count_to(place) {
+        return false;
+    }
+    match graph.owner(place, index) {
+        Some(found) => found == owner,
+        None => false,
+    }
 }
 
 /// What can support the place, which is not marked: the place itself, if it is a start, or else the first owner that is marked
-/// and has a positive edge to it; None exactly where nothing can. Linear time in the number of edges to the place.
-pub fn find_support<G: PlaceGraph>(graph: &G, supports: &[Option<u32>], place: u32) -> Option<u32>
+/// and has a positive edge to it, beside the index of that edge; None exactly where nothing can. Linear time in the number of
+/// edges to the place.
+pub fn find_support<G: PlaceGraph>(
+    graph: &G,
+    supports: &[Option<u32>],
+    place: u32,
+) -> Option<(u32, usize)>
     requires whole { IsGraph (G.graph graph.now) }
     requires room { (G.graph graph.now).places ≤ length supports.now }
     requires place { place < (G.graph graph.now).places }
     requires free { support_of supports.now place ≡ None }
-    ensures some { IfSome result (λ b. IsSupport (G.graph graph.now) supports.now place b) }
-    ensures within { IfSome result (λ b. b < (G.graph graph.now).places) }
+    ensures some { IfSome result (λ s. IsSupport (G.graph graph.now) supports.now place s.0) }
+    ensures within { IfSome result (λ s. s.0 < (G.graph graph.now).places) }
     ensures none { IfNone result (IsUnsupported (G.graph graph.now) supports.now place) }
 {
     if graph.is_start(place) {
-        return Some(place);
+        return Some((place, 0));
     }
     for index in 0..graph.count_to(place) {
         if let Some(owner) = graph.owner(place, index) {
             if supports[owner as usize].is_some() {
-                return Some(owner);
+                return Some((owner, index));
             }
         }
     }

@@ -42,10 +42,6 @@ impl PlaceGraph for Pair {
     fn owner(&self, _place: u32, _index: usize) -> Option<u32> {
         Some(0)
     }
-
-    fn has_step(&self, owner: u32, target: u32) -> bool {
-        owner == 0 && target == 1
-    }
 }
 
 #[test]

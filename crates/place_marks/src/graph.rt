@@ -1,6 +1,6 @@
 //! What marks ask of a graph.
-ghost use Rattle.std.specs.Prelude.{◌≡◌, ◌<◌, ◌↔◌, IsTrue, length, slice_index_or, None};
-ghost use Rattle.place_marks.specs.Graph.{Graph, IsGraph, IsStep};
+ghost use Rattle.std.specs.Prelude.{◌≡◌, ◌<◌, length, slice_index_or, None};
+ghost use Rattle.place_marks.specs.Graph.{Graph, IsGraph};
 
 /// A graph whose places are the numbers below their count. Some places are starts. Each place has a list of the edges that
 /// lead from it, and of those that lead to it; marks go along positive edges alone.
@@ -39,10 +39,4 @@ pub trait PlaceGraph {
         requires place { place < (graph self.now).places }
         requires index { index < length ((graph self.now).owners place) }
         ensures { result ≡ slice_index_or ((graph self.now).owners place) index None };
-
-    /// Whether a positive edge leads from the owner to the target.
-    fn has_step(&self, owner: u32, target: u32) -> bool
-        requires owner { owner < (graph self.now).places }
-        requires target { target < (graph self.now).places }
-        ensures { IsTrue result ↔ IsStep (graph self.now) owner target };
 }

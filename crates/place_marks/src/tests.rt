@@ -42,10 +42,6 @@ impl PlaceGraph for Row {
     fn owner(&self, place: u32, _index: usize) -> Option<u32> {
         if place == 1 { Some(0) } else { None }
     }
-
-    fn has_step(&self, owner: u32, target: u32) -> bool {
-        owner == 0 && target == 1
-    }
 }
 
 #[test]

@@ -1,17 +1,14 @@
 -- A shadow graph as a graph of places.
-use Rattle.std.proofs.Common.{◌≡◌, ◌<◌, ◌↔◌, ◌&&◌, ◌||◌, ◌⊎◌, ◌-ℤ◌, not, ℕ, ℤ, zero, suc, Bool, true, false, cond, int_lt, List, [], ◌∷◌, Some, None, length, get_or, map, nat_lt, pos, refl, sym, ◌∙◌, ap, inl, inr, arith}
+use Rattle.std.proofs.Common.{◌≡◌, ◌<◌, ◌↔◌, ◌&&◌, ◌⊎◌, not, ℕ, zero, suc, Bool, true, false, List, [], ◌∷◌, Some, None, length, get_or, map, nat_lt, refl, sym, ◌∙◌, ap, inl, inr}
 use Rattle.std.proofs.lemmas.Bool.{false≢true}
-use Rattle.std.proofs.lemmas.Int.{ints}
 use Rattle.crgc_ids.specs.Actor.{Actor}
-use Rattle.crgc_ids.specs.Nodes.{has_node}
 use Rattle.edge_table.specs.Table.{no_edge}
 use Rattle.edge_table.specs.declared.table.Edge.{Edge}
 use Rattle.crgc_ids.specs.Members.{IsAmong}
 use Rattle.place_marks.specs.Graph.{IsGraph, IsOwner, IsStep}
-use Rattle.shadow_graph.specs.Graph.{Graph, lost_in}
+use Rattle.shadow_graph.specs.Graph.{Graph}
 use Rattle.shadow_graph.specs.Pairs.{edge_between, has_pair}
 use Rattle.shadow_graph.specs.Places.{ArePlaced, actor_of, owners_of, targets_of}
-use Rattle.shadow_graph.specs.Seen.{is_dropped, seen_edge}
 use Rattle.pseudoroot_trace.specs.Trace.{if_leads, is_out, leads, place_graph}
 
 pub is-or-not : (a : Bool) → (a ≡ true) ⊎ (a ≡ false)
@@ -88,19 +85,6 @@ graph-whole g placed = record {
 }
 
 -- ---- the code's tests
-
--- marks go along an edge where its value is positive, and its target's node is not lost
-leads-by : (dropped lost : Bool) (e : Edge) (value : ℤ) (r : Bool) → value ≡ pos (cond dropped no_edge e).given -ℤ pos (cond dropped no_edge e).released → r ≡ (int_lt (pos 0) value && not lost) → r ≡ (not (dropped || lost) && nat_lt e.released e.given)
-leads-by true lost e value r is tells = tells ∙ ap (λ v. int_lt (pos 0) v && not lost) is
-leads-by false true e value r is tells = tells ∙ and-false (int_lt (pos 0) value)
-  where
-    and-false : (b : Bool) → (b && false) ≡ false
-    and-false true = refl
-    and-false false = refl
-leads-by false false e value r is tells = grind (arith, ints)
-
-pub leads-value : (g : Graph) (b a : Actor) (value : ℤ) (r : Bool) → value ≡ pos (seen_edge g b a).given -ℤ pos (seen_edge g b a).released → r ≡ (int_lt (pos 0) value && not (has_node (lost_in g) a.node)) → r ≡ leads g b a
-leads-value g b a value r is tells = leads-by (is_dropped g a) (has_node (lost_in g) a.node) (edge_between g.edges b a) value r is tells
 
 pub leads-step : (g : Graph) → ArePlaced g → (p k : ℕ) → p < length g.shadows.names → k < length g.shadows.names → (r : Bool) → r ≡ leads g (actor_of g p) (actor_of g k) → (r ≡ true) ↔ IsStep (place_graph g) p k
 leads-step g placed p k in_p in_k r is = (

@@ -75,11 +75,6 @@ impl<'a> PlaceGraph for Trace<'a> {
             None
         }
     }
-
-    fn has_step(&self, owner: u32, target: u32) -> bool {
-        let _places = self.graph.place_count();
-        leads(self.graph, target, self.graph.edge_between(owner, target))
-    }
 }
 
 /// Whether the actor with this shadow, which was not dropped, is a pseudoroot: it has no own entry, or that says busy or root, or

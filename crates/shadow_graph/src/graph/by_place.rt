@@ -8,7 +8,6 @@ ghost use Rattle.shadow_graph.specs.Seen.{is_dropped, seen_edge};
 ghost use Rattle.shadow_rows.specs.Tabled.{pair_at};
 
 use super::ShadowGraph;
-use crate::found::no_edge;
 use edge_table::Edge;
 use shadow_table::Shadow;
 
@@ -83,34 +82,6 @@ impl ShadowGraph {
     {
         let _names = self.shadows.place_count();
         let _pairs = self.edges.edge_count();
-        self.edges.edge(number)
-    }
-
-    /// The value of `edge` for the actors at both places. At most 2 * 8 looks at edges, and where that does not tell, time
-    /// logarithmic in their number.
-    pub fn edge_between(&self, owner: u32, target: u32) -> i64
-        requires owner { owner < length self.now.shadows.names }
-        requires target { target < length self.now.shadows.names }
-        ensures { let e = seen_edge self.now (actor_of self.now owner) (actor_of self.now target) in
-            result ≡ pos e.given -ℤ pos e.released }
-    {
-        self.value(target, self.kept_between(owner, target))
-    }
-
-    /// What is kept of the actors at both places, or of no edge where no row named the pair.
-    fn kept_between(&self, owner: u32, target: u32) -> Edge
-        requires owner { owner < length self.now.shadows.names }
-        requires target { target < length self.now.shadows.names }
-        ensures between { result ≡ edge_between self.now.edges (actor_of self.now owner) (actor_of self.now target) }
-        ensures given { result.given ≤ 4611686018427387904 }
-        ensures released { result.released ≤ 4611686018427387904 }
-    {
-        let _names = self.shadows.place_count();
-        let _edges = self.edges.edge_count();
-        let (from, to) = (self.actor(owner), self.actor(target));
-        let Some(number) = self.edges.number_of(from, to, owner, target) else {
-            return no_edge();
-        };
         self.edges.edge(number)
     }
 
