@@ -1,4 +1,3 @@
-pub mod Spelled
 pub mod Standings
 pub mod Moving
 pub mod Answering

@@ -21,8 +21,7 @@ use Rattle.script_actors.proofs.Standings as actors
 use Rattle.script_progress.proofs.Steps as progress
 use Rattle.world_object.specs.declared.parts.ClusterParts.{ClusterParts}
 use Rattle.world_object.specs.Answering.{Happens}
-use Rattle.world_object.specs.Standing.{AreSpellings, Stands}
-use Rattle.world_object.proofs.Spelled.{spellings-onto}
+use Rattle.world_object.specs.Standing.{Stands}
 
 -- an event of a round is no act
 round-due : (s : Scripted) (e : Event) (h : List Event) → is_of_round e ≡ true → IsDue s e h
@@ -53,7 +52,6 @@ module _ (old : ClusterParts) (stands : Stands old) (events : List Event) (w : S
     actors = subst (λ x. AreActorsAt old.script.value x t) (sym past) at;
     progress = subst (λ x. IsProgressAt old.script.value x p) (sym past) used;
     sound = subst (IsSound old.script.value) (sym past) sound;
-    spellings = subst (λ x. AreSpellings old.script.value x old.spellings) (sym past) (spellings-onto old.script.value old.world.past events old.spellings stands.spellings);
   }
 
 -- an event of a round happens

@@ -23,9 +23,7 @@ use Rattle.script_reader.specs.declared.script.Tie.{Tie as TieRow}
 use Rattle.run_model.specs.Doing.{Doing, as_seed, beginning, behaviour_of, cluster_of, doing, first_names, is_in_ranges, row_of, seed_actors, seed_number, seeded, tie_of}
 use Rattle.run_model.proofs.SeedRows.{seeded-snoc, seeds_done, seeds_done-snoc}
 use Rattle.world_object.specs.declared.parts.ClusterParts.{ClusterParts}
-use Rattle.world_object.specs.Spelled.{spellings_of}
 use Rattle.world_object.specs.Standing.{IsBegun, Stands, opening_of}
-use Rattle.world_object.proofs.Spelled.{spellings-none}
 use Rattle.run_model.proofs.ScriptRanges.{script-in_ranges}
 use Rattle.script_actors.proofs.Beginnings.{seeded-length, start-idle}
 
@@ -94,15 +92,14 @@ module _ (p : ClusterParts) (s : Scripted) (script : p.script.value ≡ s) (fits
   start-sound : IsSound s (beginning s)
   start-sound = (beginning-legal s (script-in_ranges s fits), beginning-holds s)
 
-  pub begins-stands : ((o : ℕ) → spellings_of p.spellings o ≡ []) → Stands p
-  begins-stands none = record {
+  pub begins-stands : Stands p
+  begins-stands = record {
     script = subst IsScript (sym script) fits;
     cluster = world.cluster ∙ ap cluster_of (sym script);
     seeds = seeds ∙ ap seed_actors (sym script);
     actors = subst (λ x. AreActorsAt x p.world.past p.actors) (sym script) (subst (λ h. AreActorsAt s h p.actors) (sym world.past) at);
     progress = subst (λ x. IsProgressAt x p.world.past p.progress) (sym script) (subst (λ h. IsProgressAt s h p.progress) (sym world.past) used);
     sound = subst (λ x. IsSound x p.world.past) (sym script) (subst (IsSound s) (sym world.past) start-sound);
-    spellings = spellings-none p.script.value p.world.past p.spellings none;
   }
 
   -- of an actor that was born

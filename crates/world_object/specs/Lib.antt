@@ -2,6 +2,5 @@ pub mod State
 pub mod Standing
 pub mod Answering
 pub mod Searching
-pub mod Spelled
 pub mod Turns
 pub mod Locked

@@ -1,5 +1,5 @@
 -- What the parts of a cluster stand for.
-use Rattle.std.specs.Prelude.{◌≡◌, ℕ, List, [], map, slice_get, Some}
+use Rattle.std.specs.Prelude.{◌≡◌, List, [], map}
 use Rattle.crgc_ids.specs.Actor.{Actor}
 use Rattle.history_model.specs.declared.events.Event.{Event}
 use Rattle.history_model.specs.declared.events.Event.TheVariants.{Seed}
@@ -14,8 +14,6 @@ use Rattle.script_actors.specs.Table.{Table}
 use Rattle.script_progress.specs.Standing.{IsProgressAt}
 use Rattle.script_progress.specs.Used.{Used}
 use Rattle.operation_model.specs.Openings.{Opening}
-use Rattle.world_object.specs.Searching.{SpellsNumber}
-use Rattle.world_object.specs.Spelled.{spellings_of}
 use Rattle.world_object.specs.State.{ClusterState, as_opening}
 use Rattle.world_object.specs.declared.parts.ClusterParts.{ClusterParts}
 
@@ -26,12 +24,8 @@ state_of p = record { script = p.script.value; past = p.world.past; actors = p.a
 abbrev pub opening_of : ClusterParts → Opening
 opening_of p = as_opening (state_of p)
 
--- each of them is the spelling of its node's bulletin with its number
-abbrev pub AreSpellings : Scripted → List Event → List (List (List ℕ)) → Type 0
-AreSpellings s h kept = (o k : ℕ) (bytes : List ℕ) → slice_get (spellings_of kept o) k ≡ Some bytes → SpellsNumber s h o k bytes
-
--- the world is that of the script's cluster, in which names say no more than is held; and the actors, the seeds, what is used of the
--- plan and the spellings are those of the script and of the world's history
+-- the world is that of the script's cluster, in which names say no more than is held; and the actors, the seeds and what is used of
+-- the plan are those of the script and of the world's history
 pub record Stands (p : ClusterParts) : Type 0 where
   pub script : IsScript p.script.value
   pub cluster : p.world.cluster ≡ cluster_of p.script.value
@@ -39,7 +33,6 @@ pub record Stands (p : ClusterParts) : Type 0 where
   pub actors : AreActorsAt p.script.value p.world.past p.actors
   pub progress : IsProgressAt p.script.value p.world.past p.progress
   pub sound : IsSound p.script.value p.world.past
-  pub spellings : AreSpellings p.script.value p.world.past p.spellings
 
 -- the seeds, in order
 abbrev pub seeds_of : Scripted → List Event

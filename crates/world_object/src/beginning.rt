@@ -11,7 +11,6 @@ ghost use Rattle.world_object.specs.Standing.{ArePartsOf, IsBegun, Stands, openi
 
 use crate::making::child_in;
 use crate::parts::ClusterParts;
-use crate::spellings::Spellings;
 use crate::verdicts::KeptVerdicts;
 use crgc_ids::{ActorId, ActorList, NoMemory, NodeId};
 use history_model::Event;
@@ -63,7 +62,6 @@ fn parts_of(
         claims: [None; 16],
         halt: None,
         verdicts: KeptVerdicts::new(alloc),
-        spellings: Spellings::new(alloc),
         alloc,
         script,
     }

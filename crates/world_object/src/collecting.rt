@@ -27,15 +27,13 @@ impl ClusterParts {
         ensures err { OnErr result (self.new ≡ self.old) }
         ensures halt { IfErr result (Halts self.old (ops.Hand node origin number)) }
     {
+        self.world.keep_spelling(origin, number);
         let Ok(bytes) = self.bytes_of(origin, number) else {
             return Err(Halt::Memory);
         };
         let to = node;
         match self.done(&Event::Hand { to, origin, number }) {
-            Ok(_) => {
-                self.keep(origin, number, &bytes);
-                Ok(Reply::Bytes(bytes))
-            }
+            Ok(_) => Ok(Reply::Bytes(bytes)),
             Err(halt) => Err(halt),
         }
     }
@@ -46,13 +44,13 @@ impl ClusterParts {
         requires number { number < length (stream (cluster_of self.now.script.value) origin self.now.world.past) }
         ensures { IfOk result (SpellsNumber self.now.script.value self.now.world.past origin number) }
     {
-        match self.spellings.get(origin, number) {
+        match self.world.spelling(origin, number) {
             Some(bytes) => bytes.copy(),
             None => self.spell(origin, number),
         }
     }
 
-    /// The same, written anew.
+    /// The same, written anew, where there was no memory to keep it.
     fn spell(&self, origin: NodeId, number: u32) -> Result<Octets, NoMemory>
         requires stands { Stands self.now }
         requires number { number < length (stream (cluster_of self.now.script.value) origin self.now.world.past) }
@@ -65,20 +63,6 @@ impl ClusterParts {
         };
         is_spellable(bulletin);
         write(self.alloc, bulletin)
-    }
-
-    /// The spelling is kept for the nodes that the bulletin is handed to later, if it is the origin's next one and there is memory.
-    fn keep(&mut self, origin: NodeId, number: u32, bytes: &Octets)
-        requires stands { Stands self.old }
-        requires spells { SpellsNumber self.old.script.value self.old.world.past origin number bytes.now }
-        ensures stands { Stands self.new }
-        ensures others { self.new ≡ record self.old { spellings = self.new.spellings } }
-    {
-        if self.spellings.len(origin) == number as usize {
-            if let Ok(copy) = bytes.copy() {
-                let _kept = self.spellings.keep(origin, copy);
-            }
-        }
     }
 
     /// The actors that the verdict names are stopped, and the verdict is kept.

@@ -15,7 +15,6 @@ mod refusing;
 mod resting;
 mod searching;
 mod shared;
-mod spellings;
 mod telling;
 mod turning;
 mod verdicts;

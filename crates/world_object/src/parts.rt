@@ -1,5 +1,4 @@
 //! What a cluster is made of.
-use crate::spellings::Spellings;
 use crate::verdicts::KeptVerdicts;
 use crgc_ids::{ActorList, NodeId};
 use operation_model::Halt;
@@ -11,8 +10,8 @@ use std::snapshot::Snapshot;
 use true_config::World;
 
 /// A cluster of a script: its world, its actors between their turns, how much of the plan is used, the actors that the seeds are,
-/// which pass has claimed each node, whether it has halted, the verdicts of its sweeps, and spellings of bulletins that were handed to
-/// nodes, so that each bulletin is spelled once.
+/// which pass has claimed each node, whether it has halted, and the verdicts of its sweeps. Its world keeps the spelling of each
+/// bulletin that was handed to a node, so that each is spelled once.
 #[derive(Drop)]
 pub(crate) struct ClusterParts {
     pub(crate) world: World,
@@ -22,7 +21,6 @@ pub(crate) struct ClusterParts {
     pub(crate) claims: [Option<u32>; 16],
     pub(crate) halt: Option<Halt>,
     pub(crate) verdicts: KeptVerdicts,
-    pub(crate) spellings: Spellings,
     pub(crate) alloc: Global,
     pub(crate) script: Snapshot<Script>,
 }

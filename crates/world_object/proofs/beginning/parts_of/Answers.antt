@@ -13,12 +13,11 @@ returns-clause-stands c =
       claims = None ∷ None ∷ None ∷ None ∷ None ∷ None ∷ None ∷ None ∷ None ∷ None ∷ None ∷ None ∷ None ∷ None ∷ None ∷ None ∷ [];
       halt = None;
       verdicts = c.new.result;
-      spellings = c.new-2.result;
       alloc = c.args.alloc;
       script = c.args.script;
     } in
     let are = c.requires in
-    begins-stands p c.args.script.value refl are.script are.world are.seeds_are are.actors are.progress c.new-2.ensures
+    begins-stands p c.args.script.value refl are.script are.world are.seeds_are are.actors are.progress
 
 pub returns-clause-new : goal.returns-clause-new
 returns-clause-new c =
@@ -30,7 +29,6 @@ returns-clause-new c =
       claims = None ∷ None ∷ None ∷ None ∷ None ∷ None ∷ None ∷ None ∷ None ∷ None ∷ None ∷ None ∷ None ∷ None ∷ None ∷ None ∷ [];
       halt = None;
       verdicts = c.new.result;
-      spellings = c.new-2.result;
       alloc = c.args.alloc;
       script = c.args.script;
     } in
