@@ -7,15 +7,12 @@ ghost use Rattle.history_model.specs.State.{is_up};
 ghost use Rattle.history_model.specs.Streams.{stream};
 ghost use Rattle.history_model.specs.Sweeps.{IsVerdict};
 ghost use Rattle.true_config.specs.Promises.{IsFoundBySweep};
-ghost use Rattle.true_config.specs.Readings.{IsSpelledAt};
 ghost use Rattle.collector.specs.declared.read.TakeFault.TheVariants as faults;
 ghost use Rattle.collector.specs.Collected.{IsSettled};
 ghost use Rattle.collector.specs.Taking.{IsOfStreams};
 ghost use Rattle.node_collectors.specs.Standing.{AreCollectorsAt, IsRead, SweepsOut};
 ghost use Rattle.node_collectors.specs.Wanted.{IsFirstUnhanded};
 
-use bulletin_spelling::is_spellable;
-use bulletin_streams::laws::bulletins_fit_the_wire;
 use collector::{Collector, TakeFault};
 use crgc_ids::{NoMemory, NodeId, Octets};
 use history_model::Verdict;
@@ -23,10 +20,9 @@ use std::alloc::Global;
 use std::marker::Model;
 use true_config::World;
 
-/// The collectors of a cluster's nodes, one each. It keeps its allocator. Contracts see the list of the collectors, by node.
+/// The collectors of a cluster's nodes, one each. Contracts see the list of the collectors, by node.
 #[derive(Drop)]
 pub struct NodeCollectors {
-    alloc: Global,
     rows: Vec<Collector>,
 }
 
@@ -53,14 +49,14 @@ impl NodeCollectors {
                 return Err(NoMemory);
             };
         }
-        Ok(NodeCollectors::of(alloc, rows))
+        Ok(NodeCollectors::of(rows))
     }
 
     /// The collectors of a cluster's nodes, given in the order of the nodes. Constant time.
-    pub fn of(alloc: Global, rows: Vec<Collector>) -> NodeCollectors
+    pub fn of(rows: Vec<Collector>) -> NodeCollectors
         ensures { result ≡ rows.items }
     {
-        NodeCollectors { alloc, rows }
+        NodeCollectors { rows }
     }
 
     /// A bulletin goes to the collector of a node, as the world's last event says, a hand to that node: where the collectors
@@ -83,7 +79,7 @@ impl NodeCollectors {
         if self.rows[place].has_taken(origin, number) {
             return Ok(());
         }
-        let bytes = bytes_of(self.alloc, world, origin, number)?;
+        let bytes = bytes_of(world, origin, number)?;
         match self.rows[place].take(origin, number, bytes.as_slice()) {
             Ok(_) => Ok(()),
             Err(fault) => Err(want_of(fault)),
@@ -143,31 +139,14 @@ fn sweep_out(collector: &mut Collector) -> Result<Verdict, NoMemory>
 
 /// The bytes of the origin's bulletin of this number in the world's history. Linear time where they are kept, else in proportion to
 /// n log n for n rows.
-fn bytes_of(alloc: Global, world: &World, origin: NodeId, number: u32) -> Result<Octets, NoMemory>
+fn bytes_of(world: &World, origin: NodeId, number: u32) -> Result<Octets, NoMemory>
     requires origin { origin < world.now.cluster.nodes }
     requires number { number < length (stream world.now.cluster origin world.now.past) }
     ensures told { IfOk result (IsOfStreams (λ o. stream world.now.cluster o world.now.past) origin number) }
     ensures read { IfOk result (IsRead world.now.cluster.nodes origin) }
 {
     world.is_lawful();
-    match world.spelling(origin, number) {
-        Some(bytes) => bytes.copy(),
-        None => spell(alloc, world, origin, number),
-    }
-}
-
-/// The same, written anew.
-fn spell(alloc: Global, world: &World, origin: NodeId, number: u32) -> Result<Octets, NoMemory>
-    requires { number < length (stream world.now.cluster origin world.now.past) }
-    ensures { IfOk result (IsSpelledAt world.now.cluster world.now.past origin number) }
-{
-    world.is_lawful();
-    bulletins_fit_the_wire();
-    let Some(bulletin) = world.bulletin(origin, number) else {
-        unreachable!()
-    };
-    is_spellable(bulletin);
-    graph_wire::write(alloc, bulletin)
+    world.spell(origin, number)
 }
 
 /// The one fault for which a collector refuses what a node told.

@@ -36,7 +36,7 @@ pub(crate) fn by_node(
     if !add_new(alloc, world, &mut rows, world.nodes())? {
         return Ok(None);
     }
-    Ok(rows_of(alloc, world, rows))
+    Ok(rows_of(world, rows))
 }
 
 /// New collectors come last, for the nodes up to this number; whether all these are nodes that are down. After any other answer
@@ -75,12 +75,12 @@ fn push(rows: &mut Vec<Collector>, collector: Collector) -> Result<(), NoMemory>
 }
 
 /// The collectors, if there is one for each node.
-fn rows_of(alloc: Global, world: &World, rows: Vec<Collector>) -> Option<NodeCollectors>
+fn rows_of(world: &World, rows: Vec<Collector>) -> Option<NodeCollectors>
     requires { AreRowsAt world.now.cluster world.now.past rows.items }
     ensures { IfSome result (AreCollectorsAt world.now.cluster world.now.past) }
 {
     if rows.len() == world.nodes() as usize {
-        return Some(NodeCollectors::of(alloc, rows));
+        return Some(NodeCollectors::of(rows));
     }
     None
 }

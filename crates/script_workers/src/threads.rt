@@ -30,8 +30,8 @@ pub struct Crew {
 }
 
 /// Runs so many of the crew beside each other, each in a thread of its own where one can be made and with a pass of its own, to their
-/// ends. The first pass of the lock has then taken in those of the crew. With it come the collectors of the nodes: all that came
-/// back, by node, but for one for which there is no memory in the list.
+/// ends. The first pass of the lock has then taken in those of the crew. With it come the collectors that came back, but for each
+/// one for which there was no memory in the list.
 pub(crate) fn serve_all<G: Gate + Sync, R: Threads + Wait + Clock + Sync>(
     rt: &R,
     alloc: Global,

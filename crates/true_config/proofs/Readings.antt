@@ -2,9 +2,13 @@
 use Rattle.std.proofs.Common.{◌≡◌, ◌<◌, ◌∷◌, ◌&&◌, not, ℕ, Bool, true, false, cond, List, [], length, refl, sym, ◌∙◌, ap, nat_lt, Option, Some, None, IfNone, IfSome, arith}
 use Rattle.std.proofs.lemmas.Bool.{false≢true, lt-ltb}
 use Rattle.crgc_ids.specs.Actor.{Actor, is_actor_below, same_actor}
+use Rattle.bulletin_streams.specs.Standing.{FitsWire, IsWithinLimits, TellsNumber}
+use Rattle.graph_wire.specs.Writable.{IsWritable}
 use Rattle.history_model.specs.declared.events.Event.{Event}
 use Rattle.history_model.specs.declared.events.Event.TheVariants.{Flush}
 use Rattle.history_model.specs.declared.events.Rule.TheVariants.{Blank, Down, NoActor}
+use Rattle.history_model.specs.declared.records.Bulletin.{Bulletin}
+use Rattle.history_model.specs.declared.records.Bulletin.TheVariants as bulletins
 use Rattle.history_model.specs.Cluster.{Cluster, is_born}
 use Rattle.history_model.specs.Facts.{Fact, created, flagged, received, released, sent_to}
 use Rattle.history_model.specs.Graph.{insert_actor, rising_actors}
@@ -12,7 +16,7 @@ use Rattle.history_model.specs.Legal.{check, first_broken, has_nothing, refusal}
 use Rattle.history_model.specs.Messages.{Message, is_closed}
 use Rattle.history_model.specs.State.{is_up}
 use Rattle.history_model.specs.Streams.{can_flush, is_blank}
-use Rattle.history_model.specs.Tells.{fact_names}
+use Rattle.history_model.specs.Tells.{IsOrdered, fact_names}
 use Rattle.link_table.specs.Standing.{is_link_open}
 use Rattle.roster.specs.Standing.{IsRosterOf}
 use Rattle.roster.specs.Table as tables
@@ -81,3 +85,18 @@ next-flushed cl h r n after (Some first) stands some none = (
   (some.here, flush-kept (is_up first.node h) (is_born first h) (can_flush cl first h) (sym (flushed-due cl h r stands first) ∙ some.may), some.above),
   λ a may. some.lowest a may.0 (due cl h r stands a may.1) may.2,
 )
+
+-- ---- bulletins
+
+-- what fits the wire may be written
+fits-writable : (b : Bulletin) → FitsWire b → IsWritable b
+fits-writable (bulletins.Delta d) fits = record { states = fits.rows.states; sent = fits.rows.sent; created = fits.rows.created; released = fits.rows.released }
+fits-writable (bulletins.Window w) fits = record { link = fits.ends; messages = fits.rows.sent; carried = fits.rows.created }
+fits-writable (bulletins.Final w) fits = record { link = fits.ends; messages = fits.rows.sent; carried = fits.rows.created }
+
+-- so may a bulletin of a stream
+pub if_some-writable : {X : Type 0} (of : X → Bulletin) (cl : Cluster) (h : List Event) (o k : ℕ) (r : Option X) → IsWithinLimits cl h
+    → ((c : Cluster) (g : List Event) (p n : ℕ) (b : Bulletin) → IsWithinLimits c g → IsOrdered b → TellsNumber c g p n b → FitsWire b)
+    → IfSome r (λ x. IsOrdered (of x)) → IfSome r (λ x. TellsNumber cl h o k (of x)) → IfSome r (λ x. IsWritable (of x))
+if_some-writable of cl h o k None within law ordered told = tt
+if_some-writable of cl h o k (Some x) within law ordered told = fits-writable (of x) (law cl h o k (of x) within ordered told)

@@ -14,7 +14,10 @@ use history_model::Event;
 impl World {
     /// An event of any form but a sweep happens, or the answer is what hinders it: the first rule that it breaks, or else the
     /// limit that it would pass. Every stopped actor stays quiescent. After any answer but `Done`, and after `NoMemory`, all is
-    /// as before.
+    /// as before. Logarithmic time in the actors, references, copies and messages that are there, for the event and for each
+    /// reference that it carries, on average where an admission is noted; for a flush, a publish, a window and a removal time in
+    /// proportion to n log n for the n rows that they tell; for a crash and a removal also linear time in what the node and its
+    /// links have.
     pub fn apply(&mut self, event: &Event) -> Result<Applied, NoMemory>
         requires no_sweep { is_sweep event.now ≡ false }
         requires few { CarriesFew event.now }

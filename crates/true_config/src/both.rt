@@ -8,13 +8,13 @@ ghost use Rattle.true_config.specs.Steps.{Adds, MayFollow};
 
 use crate::World;
 use crate::applied::{Applied, Told};
-use crgc_ids::{ActorId, NoMemory, Which};
+use crgc_ids::{ActorId, MOST_EVENTS, NoMemory, Which};
 use history_model::{Event, History};
 
 impl World {
     /// A rest and the crash of its node, or a flush and the publish of its node: both happen, or the answer is what hinders the
     /// first, or else what hinders the second after the first. Every stopped actor stays quiescent. After any answer but `Done`,
-    /// and after `NoMemory`, all is as before.
+    /// and after `NoMemory`, all is as before. In the time of both by `apply`.
     pub fn apply_both(&mut self, first: &Event, second: &Event) -> Result<Applied, NoMemory>
         requires { ArePaired first.now second.now }
         ensures answer { IfOk result (λ x. x ≡ answer_to_both self.old.cluster first.now second.now self.old.past) }
@@ -53,7 +53,7 @@ impl World {
         if let Some(answer) = hindrance {
             return Ok(answer);
         }
-        if self.history.len() >= 999_999 {
+        if self.history.len() >= MOST_EVENTS as usize - 1 {
             return Ok(Applied::Limit(Which::Events));
         }
         match self.crash_at_rest(actor) {

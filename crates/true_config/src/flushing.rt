@@ -14,7 +14,7 @@ use crate::World;
 use crate::applied::{Applied, Told};
 use crate::both::{push_both, take_back_both};
 use bulletin_streams::BulletinStreams;
-use crgc_ids::{ActorId, NoMemory, Which};
+use crgc_ids::{ActorId, MOST_EVENTS, NoMemory, Which};
 use history_model::{Event, History};
 use roster::Roster;
 
@@ -106,7 +106,7 @@ fn publish_queue(
     if over {
         return Ok(Some(Which::Delta));
     }
-    if history.len() >= 999_999 {
+    if history.len() >= MOST_EVENTS as usize - 1 {
         return Ok(Some(Which::Events));
     }
     let Ok(()) = push_both(history, Event::Flush { actor }, Event::Publish { node }) else {

@@ -28,7 +28,7 @@ impl World {
         }
     }
 
-    /// The first rule that the event breaks; None exactly where it is legal. It asks at most seven times, and a send twice more
+    /// The first rule that the event breaks; None exactly where it is legal. It asks at most eight times, and a send twice more
     /// for each reference.
     pub fn refusal(&self, event: &Event) -> Option<Rule>
         ensures { result ≡ refusal self.now.cluster event.now self.now.past }

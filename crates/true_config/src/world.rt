@@ -167,7 +167,7 @@ impl World {
         self.traffic.mail(actor)
     }
 
-    /// Whether the actor has something to tell at a flush. Constant time.
+    /// Whether the actor has something to tell at a flush; so has one that was not born, of which nothing was told. Constant time.
     pub fn can_flush(&self, actor: ActorId) -> bool
         ensures { result ≡ can_flush self.now.cluster actor self.now.past }
     {

@@ -9,10 +9,7 @@ ghost use Rattle.run_model.specs.Doing.{cluster_of};
 ghost use Rattle.world_object.specs.Searching.{SpellsNumber};
 
 use crate::parts::ClusterParts;
-use bulletin_spelling::is_spellable;
-use bulletin_streams::laws::bulletins_fit_the_wire;
 use crgc_ids::{NoMemory, NodeId, Octets};
-use graph_wire::write;
 use history_model::{Event, Verdict};
 use operation_model::{Halt, Reply};
 use true_config::Applied;
@@ -44,25 +41,7 @@ impl ClusterParts {
         requires number { number < length (stream (cluster_of self.now.script.value) origin self.now.world.past) }
         ensures { IfOk result (SpellsNumber self.now.script.value self.now.world.past origin number) }
     {
-        match self.world.spelling(origin, number) {
-            Some(bytes) => bytes.copy(),
-            None => self.spell(origin, number),
-        }
-    }
-
-    /// The same, written anew, where there was no memory to keep it.
-    fn spell(&self, origin: NodeId, number: u32) -> Result<Octets, NoMemory>
-        requires stands { Stands self.now }
-        requires number { number < length (stream (cluster_of self.now.script.value) origin self.now.world.past) }
-        ensures { IfOk result (SpellsNumber self.now.script.value self.now.world.past origin number) }
-    {
-        self.world.is_lawful();
-        bulletins_fit_the_wire();
-        let Some(bulletin) = self.world.bulletin(origin, number) else {
-            unreachable!()
-        };
-        is_spellable(bulletin);
-        write(self.alloc, bulletin)
+        self.world.spell(origin, number)
     }
 
     /// The actors that the verdict names are stopped, and the verdict is kept.

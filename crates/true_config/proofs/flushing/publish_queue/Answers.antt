@@ -11,8 +11,8 @@ returns-then-over-clause-limit c = λ cl stands.
     let told = subst (λ n. passes_delta cl (Publish n) (Flush a ∷ h) ≡ c.in-Ok.over) c.node-node.ensures (c.in-Ok.ensures.told cl (Flush a ∷ h) stands) in
     publish-over cl (Flush a ∷ h) a.node (told ∙ c.if-over.true)
 
-pub returns-then-len-ge999999-clause-limit : goal.returns-then-len-ge999999-clause-limit
-returns-then-len-ge999999-clause-limit c = λ cl stands.
+pub returns-then-len-clause-limit : goal.returns-then-len-clause-limit
+returns-then-len-clause-limit c = λ cl stands.
     let h = c.args.history.now.past in
     let a = c.args.actor in
     let told = subst (λ n. passes_delta cl (Publish n) (Flush a ∷ h) ≡ c.in-Ok.over) c.node-node.ensures (c.in-Ok.ensures.told cl (Flush a ∷ h) stands) in

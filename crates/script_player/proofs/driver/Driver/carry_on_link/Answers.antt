@@ -13,13 +13,13 @@ pub carry-requires-clause-next : goal.carry-requires-clause-next
 carry-requires-clause-next c =
     let apart : c.args.from ≢ c.args.at = search rules in
     walk-next c.args.self.now c.loop-number.self c.args.from c.args.at c.in-Some.number c.loop-number.invariant c.requires.from c.requires.at apart
-    (subst (λ (w : Story). IsHead c.args.from c.args.at w.past (Some c.in-Some.number)) c.world.ensures c.in-Some.ensures)
+    (subst (λ (w : Story). IsHead c.args.from c.args.at w.past (Some c.in-Some.number)) c.world.ensures (c.in-Some.ensures.head apart))
 
 pub loop-number-preserved : goal.loop-number-preserved
 loop-number-preserved c =
     let apart : c.args.from ≢ c.args.at = search rules in
     let next = walk-next c.args.self.now c.loop-number.self c.args.from c.args.at c.in-Some.number c.loop-number.invariant c.requires.from c.requires.at apart
-    (subst (λ (w : Story). IsHead c.args.from c.args.at w.past (Some c.in-Some.number)) c.world.ensures c.in-Some.ensures) in
+    (subst (λ (w : Story). IsHead c.args.from c.args.at w.past (Some c.in-Some.number)) c.world.ensures (c.in-Some.ensures.head apart)) in
     walk-carried c.args.self.now c.loop-number.self c.carry.new.self c.args.from c.args.at c.in-Some.number c.loop-number.invariant next c.carry.ensures.script c.carry.ensures.nodes c.in-Ok.ensures.made
 
 pub returns-in-Err-clause-fault : goal.returns-in-Err-clause-fault
@@ -30,11 +30,11 @@ returns-in-Err-clause-fault c =
     let h = d.course.past in
     let e = carry s c.args.from c.args.at c.in-Some.number h in
     let next = walk-next c.args.self.now d c.args.from c.args.at c.in-Some.number c.loop-number.invariant c.requires.from c.requires.at apart
-    (subst (λ (w : Story). IsHead c.args.from c.args.at w.past (Some c.in-Some.number)) c.world.ensures c.in-Some.ensures) in
+    (subst (λ (w : Story). IsHead c.args.from c.args.at w.past (Some c.in-Some.number)) c.world.ensures (c.in-Some.ensures.head apart)) in
     subst (λ x. IsRunFault x c.in-Err.fault) c.loop-number.invariant.1
     (halts-next s h (e ∷ h) c.in-Err.fault c.loop-number.invariant.0.1 (one-carried s h e next) c.in-Err.ensures.fault)
 
 pub returns-clause-still : goal.returns-clause-still
 returns-clause-still c =
     still-next c.loop-number.self.nodes c.args.from c.args.at c.loop-number.self.course.past c.loop-number.invariant.3
-    (λ _. subst (λ (w : Story). IsHead c.args.from c.args.at w.past None) c.world.ensures c.in_default.ensures)
+    (λ apart. subst (λ (w : Story). IsHead c.args.from c.args.at w.past None) c.world.ensures (c.in_default.ensures.head apart))
