@@ -1,8 +1,9 @@
 -- Calls, one after another.
-use Rattle.std.proofs.Common.{◌≡◌, ◌≢◌, ◌⊎◌, ◌++◌, ◌≤◌, ◌+◌, ℕ, append_assoc, Bool, [], ◌∷◌, Option, Some, None, refl, sym, ◌∙◌, ap, subst, inl, inr, arith}
+use Rattle.std.proofs.Common.{◌≡◌, ◌≢◌, ◌==◌, ◌⊎◌, ◌++◌, ◌≤◌, ◌+◌, ℕ, append_assoc, Bool, true, false, cond, [], ◌∷◌, Option, Some, None, refl, sym, ◌∙◌, ap, subst, inl, inr, arith}
 use Rattle.std.specs.Prelude.{Result, Ok, Err, IfOk, IfSome}
 use Rattle.std.proofs.lemmas.Option.{none-some, same_Some}
 use Rattle.std.proofs.lemmas.Bool.{cases_lt}
+use Rattle.std.proofs.lemmas.Bool.Decides.{nat_tests}
 use Rattle.turn_lock.specs.History.{entry}
 use Rattle.operation_model.specs.declared.operations.Op.{Op}
 use Rattle.operation_model.specs.declared.operations.Op.TheVariants as ops
@@ -59,32 +60,36 @@ module _ (P Q R : Calls → Type 0) (both : (first later : Calls) → P first �
   since-then old mid new (first, one, none, p) (later, other, none', q) =
       (later ++ first, other ∙ ap (λ (own : Calls). later ++ own) one ∙ sym (append_assoc later first old), ask-nothing first later none none', both first later p q)
 
-  pub since-down : (old mid new : Calls) (done : Option Bool) → Since P old mid → SinceOrDown Q mid new done → SinceOrDown R old new done
-  since-down old mid new None first down = down
-  since-down old mid new (Some any) first later = since-then old mid new first later
+  pub since-down : (node : ℕ) (old mid new : Calls) (done : Option Bool) → Since P old mid → SinceOrDown node Q mid new done → SinceOrDown node R old new done
+  since-down node old mid new None first down = down
+  since-down node old mid new (Some any) first later = since-then old mid new first later
 
-  pub since-ok : {E : Type 0} (old mid new : Calls) (r : Result (Option Bool) E) → Since P old mid → IfOk r (λ done. SinceOrDown Q mid new done) → IfOk r (λ done. SinceOrDown R old new done)
-  since-ok old mid new (Ok done) first later = since-down old mid new done first later
-  since-ok old mid new (Err e) first later = tt
+  pub since-ok : {E : Type 0} (node : ℕ) (old mid new : Calls) (r : Result (Option Bool) E) → Since P old mid → IfOk r (λ done. SinceOrDown node Q mid new done) → IfOk r (λ done. SinceOrDown node R old new done)
+  since-ok node old mid new (Ok done) first later = since-down node old mid new done first later
+  since-ok node old mid new (Err e) first later = tt
 
 -- the call alone
 pub since-one : (op : Op) (number : ℕ) (r : Reply) (old new : Calls) → IsFree op → new ≡ entry number op r ∷ old → Since (IsMade op) old new
 since-one op number r old new free own = (entry number op r ∷ [], own, one-asks op number r free, inl refl)
 
-pub since-reply : (op : Op) (number : ℕ) (r : Reply) (old new : Calls) → IsFree op → new ≡ entry number op r ∷ old → SinceOrDown (IsMade op) old new (done_by r)
-since-reply op number (replies.Down n) old new free own = (n, rw own refl)
-since-reply op number replies.Done old new free own = since-one op number replies.Done old new free own
-since-reply op number replies.Nothing old new free own = since-one op number replies.Nothing old new free own
-since-reply op number replies.Over old new free own = since-one op number replies.Over old new free own
-since-reply op number (replies.NotReady why) old new free own = since-one op number (replies.NotReady why) old new free own
-since-reply op number (replies.Claimed n) old new free own = since-one op number (replies.Claimed n) old new free own
-since-reply op number (replies.Turn a b list locals refs root) old new free own = since-one op number (replies.Turn a b list locals refs root) old new free own
-since-reply op number (replies.Born c) old new free own = since-one op number (replies.Born c) old new free own
-since-reply op number (replies.Bytes bytes) old new free own = since-one op number (replies.Bytes bytes) old new free own
-since-reply op number (replies.Ids ids) old new free own = since-one op number (replies.Ids ids) old new free own
-since-reply op number (replies.NotYet busy live planned) old new free own = since-one op number (replies.NotYet busy live planned) old new free own
-since-reply op number replies.AllDone old new free own = since-one op number replies.AllDone old new free own
-since-reply op number (replies.Halted halt) old new free own = since-one op number (replies.Halted halt) old new free own
+pub since-reply : (node : ℕ) (op : Op) (number : ℕ) (r : Reply) (old new : Calls) → IsFree op → new ≡ entry number op r ∷ old → SinceOrDown node (IsMade op) old new (done_by node r)
+since-reply node op number (replies.Down n) old new free own =
+    elim (n == node) as (λ b. (n == node) ≡ b → SinceOrDown node (IsMade op) old new (cond b None (Some false))) [
+      | true ↦ λ e. (let same : n ≡ node = grind (arith, nat_tests) in rw own (ap (λ k. Some (replies.Down k)) same))
+      | false ↦ λ e. since-one op number (replies.Down n) old new free own
+    ] refl
+since-reply node op number replies.Done old new free own = since-one op number replies.Done old new free own
+since-reply node op number replies.Nothing old new free own = since-one op number replies.Nothing old new free own
+since-reply node op number replies.Over old new free own = since-one op number replies.Over old new free own
+since-reply node op number (replies.NotReady why) old new free own = since-one op number (replies.NotReady why) old new free own
+since-reply node op number (replies.Claimed n) old new free own = since-one op number (replies.Claimed n) old new free own
+since-reply node op number (replies.Turn a b list locals refs root) old new free own = since-one op number (replies.Turn a b list locals refs root) old new free own
+since-reply node op number (replies.Born c) old new free own = since-one op number (replies.Born c) old new free own
+since-reply node op number (replies.Bytes bytes) old new free own = since-one op number (replies.Bytes bytes) old new free own
+since-reply node op number (replies.Ids ids) old new free own = since-one op number (replies.Ids ids) old new free own
+since-reply node op number (replies.NotYet busy live planned) old new free own = since-one op number (replies.NotYet busy live planned) old new free own
+since-reply node op number replies.AllDone old new free own = since-one op number replies.AllDone old new free own
+since-reply node op number (replies.Halted halt) old new free own = since-one op number (replies.Halted halt) old new free own
 
 -- ---- what a round has
 
@@ -129,5 +134,5 @@ pub all-carried : (n k : ℕ) → 16 ≤ k → (old new : Calls) → Since (HasC
 all-carried n k most = since-weaker (HasCarries n k) (HasCarries n 16) (λ calls has f below apart. has f (omega (arith, below, most)) apart)
 
 -- where the node is not known to be down
-pub since-some : (P : Calls → Type 0) (old new : Calls) (v : Option Bool) (any : Bool) → v ≡ Some any → SinceOrDown P old new v → Since P old new
-since-some P old new v any is made = subst (SinceOrDown P old new) is made
+pub since-some : (node : ℕ) (P : Calls → Type 0) (old new : Calls) (v : Option Bool) (any : Bool) → v ≡ Some any → SinceOrDown node P old new v → Since P old new
+since-some node P old new v any is made = subst (SinceOrDown node P old new) is made

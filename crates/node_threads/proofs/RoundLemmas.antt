@@ -230,12 +230,13 @@ module _ (lock : Made ClusterState) (old : Knows) (before : Collected) (can : Ca
           }
 
       -- what comes of it
-      pub swept-out : GoesOrEnds lock old new before after (AreSweeps before after) (done_by r)
+      pub swept-out : GoesOrEnds lock old new before after (AreSweeps before after) (done_by v.node r)
       swept-out =
           elim (sweep-answered o asked.last.0 old.number r (goes_on-of r on) v
           (claimed-known o old.seen old.number v.node can.course claimed-here) (subst (IsCourse o) asked.last.1 asked.course)) [
-            | inl is ↦ subst (λ t. GoesOrEnds lock old new before after (AreSweeps before after) (done_by t)) (sym is) (goes-swept is)
-            | inr is ↦ subst (λ t. GoesOrEnds lock old new before after (AreSweeps before after) (done_by t)) (sym is) (ends-swept is)
+            | inl is ↦ subst (λ t. GoesOrEnds lock old new before after (AreSweeps before after) (done_by v.node t)) (sym is) (goes-swept is)
+            | inr is ↦ subst (λ t. GoesOrEnds lock old new before after (AreSweeps before after) (done_by v.node t)) (sym is)
+                (subst (λ b. GoesOrEnds lock old new before after (AreSweeps before after) (if b then None else Some false)) (sym (eqb-refl v.node)) (ends-swept is))
           ]
 
 -- ---- rounds

@@ -1,5 +1,5 @@
 -- What a pump has done for its node.
-use Rattle.std.specs.Prelude.{ℕ, ◌≡◌, ◌≢◌, ◌<◌, ◌++◌, Bool, true, false, Option, Some, None}
+use Rattle.std.specs.Prelude.{ℕ, ◌≡◌, ◌≢◌, ◌<◌, ◌==◌, ◌++◌, Bool, true, false, if◌then◌else◌, Option, Some, None}
 use Rattle.operation_model.specs.declared.operations.Op.{Op}
 use Rattle.operation_model.specs.declared.operations.Op.TheVariants as ops
 use Rattle.operation_model.specs.declared.replies.Reply.{Reply}
@@ -19,9 +19,9 @@ pub record HasAll (node : ℕ) (calls : Calls) : Type 0 where
   pub removal : IsMade (ops.Remove node) calls
   pub publish : IsMade (ops.Publish node) calls
 
--- the last call was answered that a node is down
-abbrev pub EndsDown : Calls → Type 0
-EndsDown own = (n : ℕ) × (last_reply own ≡ Some (replies.Down n))
+-- the last call was answered that the node is down
+abbrev pub EndsDown : ℕ → Calls → Type 0
+EndsDown node own = last_reply own ≡ Some (replies.Down node)
 
 -- ---- rounds
 
@@ -33,20 +33,20 @@ IsFree (ops.Remove d) = Unit {0}
 IsFree (ops.Carry f d) = Unit {0}
 IsFree op = ⊥
 
--- whether the operation was done; None where its node is down
-abbrev pub done_by : Reply → Option Bool
-done_by replies.Done = Some true
-done_by (replies.Down n) = None
-done_by r = Some false
+-- whether the operation was done; None where the node is down
+abbrev pub done_by : ℕ → Reply → Option Bool
+done_by node replies.Done = Some true
+done_by node (replies.Down n) = if n == node then None else Some false
+done_by node r = Some false
 
 -- the calls that the pass made since ask nothing, and have this
 abbrev pub Since : (Calls → Type 0) → Calls → Calls → Type 0
 Since P old new = (calls : Calls) × (new ≡ calls ++ old) × AsksNothing calls × P calls
 
 -- so it is, or the node is down
-abbrev pub SinceOrDown : (Calls → Type 0) → Calls → Calls → Option Bool → Type 0
-SinceOrDown P old new None = EndsDown new
-SinceOrDown P old new (Some any) = Since P old new
+abbrev pub SinceOrDown : ℕ → (Calls → Type 0) → Calls → Calls → Option Bool → Type 0
+SinceOrDown node P old new None = EndsDown node new
+SinceOrDown node P old new (Some any) = Since P old new
 
 abbrev pub HasPublish : ℕ → Calls → Type 0
 HasPublish node calls = IsMade (ops.Publish node) calls

@@ -18,7 +18,7 @@ use turn_lock::{Pass, TurnLock};
 use world_object::Shared;
 
 /// Moves what its node has to tell and what others sent to it, until nothing is left to do or the node is down: it carries the links
-/// that lead to the node, cuts windows, removes crashed nodes and publishes; the Err is why the cluster has halted.
+/// that lead to the node, makes windows, removes crashed nodes and publishes; the Err is why the cluster has halted.
 ///
 /// Where it ends and the node is not down, its last two questions whether nothing is left to do were both answered so, and between
 /// them it carried each link once more, and tried a window, a removal and a publish. It takes no memory of its own, so it never makes
@@ -32,7 +32,7 @@ pub fn pump<R: Wait + Clock>(
     requires lock { pass.old.origin ≡ lock.now.origin }
     requires sound { IsSoundOpening (as_opening lock.now.start) }
     ensures pass { pass.new ≡ record pass.old { seen = pass.new.seen; own = pass.new.own } }
-    ensures done { OnOk result (EndsDone pass.old.number (HasAll node) pass.new.own ⊎ EndsDown pass.new.own) }
+    ensures done { OnOk result (EndsDone pass.old.number (HasAll node) pass.new.own ⊎ EndsDown node pass.new.own) }
     ensures halted { IfErr result (λ halt. last_reply pass.new.own ≡ Some (Halted halt)) }
     ensures gives { times_given_up pass.new.own ≡ times_given_up pass.old.own }
 {

@@ -14,7 +14,7 @@ use std::sync::Wait;
 use turn_lock::{Pass, TurnLock};
 use world_object::Shared;
 
-/// Each link to the node is carried once, and then the node cuts a window, removes a node and publishes, each where it can; whether
+/// Each link to the node is carried once, and then the node makes a window, removes a node and publishes, each where it can; whether
 /// any of it could be done. None where the node is down; then it does no more.
 pub(crate) fn pump_once<R: Wait>(
     rt: &R,
@@ -24,7 +24,7 @@ pub(crate) fn pump_once<R: Wait>(
 ) -> Result<Option<bool>, Halt>
     requires { CanAsk lock.now pass.old }
     ensures same { IsSame pass.old pass.new }
-    ensures all { IfOk result (λ done. SinceOrDown (HasAll node) pass.old.own pass.new.own done) }
+    ensures all { IfOk result (λ done. SinceOrDown node (HasAll node) pass.old.own pass.new.own done) }
     ensures err { IfErr result (λ halt. last_reply pass.new.own ≡ Some (Halted halt)) }
     ensures gives { times_given_up pass.new.own ≡ times_given_up pass.old.own }
 {
@@ -77,12 +77,12 @@ fn carry_from<R: Wait>(
         return Ok(false);
     }
     match ask(rt, lock, pass, Op::Carry { from, at }) {
-        Ok(reply) => Ok(done(reply) == Some(true)),
+        Ok(reply) => Ok(done(reply, at) == Some(true)),
         Err(halt) => Err(halt),
     }
 }
 
-// The node cuts a window, removes a node and publishes, each where it can; whether any of it could be done, or `any` is.
+// The node makes a window, removes a node and publishes, each where it can; whether any of it could be done, or `any` is.
 fn cut_window<R: Wait>(
     rt: &R,
     lock: &TurnLock<Shared>,
@@ -92,11 +92,11 @@ fn cut_window<R: Wait>(
 ) -> Result<Option<bool>, Halt>
     requires { CanAsk lock.now pass.old }
     ensures same { IsSame pass.old pass.new }
-    ensures all { IfOk result (λ done. SinceOrDown (HasWindow node) pass.old.own pass.new.own done) }
+    ensures all { IfOk result (λ done. SinceOrDown node (HasWindow node) pass.old.own pass.new.own done) }
     ensures err { IfErr result (λ halt. last_reply pass.new.own ≡ Some (Halted halt)) }
     ensures gives { times_given_up pass.new.own ≡ times_given_up pass.old.own }
 {
-    match tell(rt, lock, pass, Op::Window { at: node }) {
+    match tell(rt, lock, pass, node, Op::Window { at: node }) {
         Ok(Some(cut)) => remove(rt, lock, pass, node, any | cut),
         Ok(None) => Ok(None),
         Err(halt) => Err(halt),
@@ -113,11 +113,11 @@ fn remove<R: Wait>(
 ) -> Result<Option<bool>, Halt>
     requires { CanAsk lock.now pass.old }
     ensures same { IsSame pass.old pass.new }
-    ensures all { IfOk result (λ done. SinceOrDown (HasRemoval node) pass.old.own pass.new.own done) }
+    ensures all { IfOk result (λ done. SinceOrDown node (HasRemoval node) pass.old.own pass.new.own done) }
     ensures err { IfErr result (λ halt. last_reply pass.new.own ≡ Some (Halted halt)) }
     ensures gives { times_given_up pass.new.own ≡ times_given_up pass.old.own }
 {
-    match tell(rt, lock, pass, Op::Remove { at: node }) {
+    match tell(rt, lock, pass, node, Op::Remove { at: node }) {
         Ok(Some(removed)) => publish(rt, lock, pass, node, any | removed),
         Ok(None) => Ok(None),
         Err(halt) => Err(halt),
@@ -134,44 +134,45 @@ fn publish<R: Wait>(
 ) -> Result<Option<bool>, Halt>
     requires { CanAsk lock.now pass.old }
     ensures same { IsSame pass.old pass.new }
-    ensures all { IfOk result (λ done. SinceOrDown (HasPublish node) pass.old.own pass.new.own done) }
+    ensures all { IfOk result (λ done. SinceOrDown node (HasPublish node) pass.old.own pass.new.own done) }
     ensures err { IfErr result (λ halt. last_reply pass.new.own ≡ Some (Halted halt)) }
     ensures gives { times_given_up pass.new.own ≡ times_given_up pass.old.own }
 {
-    match tell(rt, lock, pass, Op::Publish { node }) {
+    match tell(rt, lock, pass, node, Op::Publish { node }) {
         Ok(Some(published)) => Ok(Some(any | published)),
         Ok(None) => Ok(None),
         Err(halt) => Err(halt),
     }
 }
 
-// Makes an operation; whether it was done, or None where the node is down.
+// Makes an operation for the node; whether it was done, or None where the node is down.
 fn tell<R: Wait>(
     rt: &R,
     lock: &TurnLock<Shared>,
     pass: &mut Pass<Shared>,
+    node: NodeId,
     op: Op,
 ) -> Result<Option<bool>, Halt>
     requires may { CanAsk lock.now pass.old }
     requires free { IsFree op }
     ensures same { IsSame pass.old pass.new }
-    ensures made { IfOk result (λ done. SinceOrDown (IsMade op) pass.old.own pass.new.own done) }
+    ensures made { IfOk result (λ done. SinceOrDown node (IsMade op) pass.old.own pass.new.own done) }
     ensures err { IfErr result (λ halt. last_reply pass.new.own ≡ Some (Halted halt)) }
     ensures gives { times_given_up pass.new.own ≡ times_given_up pass.old.own }
 {
     match ask(rt, lock, pass, op) {
-        Ok(reply) => Ok(done(reply)),
+        Ok(reply) => Ok(done(reply, node)),
         Err(halt) => Err(halt),
     }
 }
 
-/// Whether the reply says that the operation was done; None where its node is down.
-pub(crate) fn done(reply: Reply) -> Option<bool>
-    ensures { result ≡ done_by reply }
+/// Whether the reply says that the operation was done; None where it says that the node is down.
+pub(crate) fn done(reply: Reply, node: NodeId) -> Option<bool>
+    ensures { result ≡ done_by node reply }
 {
     match reply {
         Reply::Done => Some(true),
-        Reply::Down(_) => None,
+        Reply::Down(down) => { if down == node { None } else { Some(false) } }
         _ => Some(false),
     }
 }

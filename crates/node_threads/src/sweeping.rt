@@ -32,10 +32,13 @@ pub(crate) fn sweep<R: Wait>(
     ensures err { IfErr result (λ halt. last_reply pass.new.own ≡ Some (Halted halt)) }
 {
     match sweep_out(collector) {
-        Ok(verdict) => match ask(rt, lock, pass, Op::Sweep { verdict }) {
-            Ok(reply) => Ok(done(reply)),
-            Err(halt) => Err(halt),
-        },
+        Ok(verdict) => {
+            let node = verdict.node;
+            match ask(rt, lock, pass, Op::Sweep { verdict }) {
+                Ok(reply) => Ok(done(reply, node)),
+                Err(halt) => Err(halt),
+            }
+        }
         Err(_) => Err(give_up(rt, lock, pass)),
     }
 }
