@@ -11,6 +11,7 @@ use Rattle.journal_model.specs.Journals.{Fault, Replay, after_header, after_line
 use Rattle.journal_model.specs.Lines.{lines_of}
 use Rattle.journal_model.specs.Verdicts.{report_text}
 use Rattle.cluster_course.specs.Collected.{IsRightlyCollected}
+use Rattle.run_model.specs.Schedule.{IsWithinLimits}
 use Rattle.journal_player.specs.Faults.{IsPlayFault}
 use Rattle.journal_player.specs.Following.{Following, start}
 use Rattle.journal_player.specs.declared.fault.PlayFault.{PlayFault}
@@ -63,16 +64,16 @@ journal-faulty text first rest from f short lines begun fault =
 -- ---- what was reported
 
 abbrev pub IsReported : Cluster → Bool → Replay → List ℕ → Type 0
-IsReported cl brief r bytes = IsLegal cl r.past × (bytes ≡ report_text cl r.past brief)
+IsReported cl brief r bytes = IsLegal cl r.past × IsWithinLimits cl r.past × (bytes ≡ report_text cl r.past brief)
 
 -- if all lines after the header were followed and reported, so was the text
 pub text-reported : (text first : List ℕ) (rest : List (List ℕ)) (from : Following) (brief : Bool) (bytes : List ℕ) → length text ≤ 16777216 → lines_of text ≡ first ∷ rest → IsBegun first from
     → ((cl : Cluster) (h : List Event) → IsLegal cl h → IsRightlyCollected cl h)
     → (r : Replay) → after_lines from.cluster 2 from.replay rest ≡ Ok r → IsReported from.cluster brief r bytes
-    → (s : Story) × (journal_of text ≡ Ok s) × IsRightlyCollected s.cluster s.past × (bytes ≡ report_text s.cluster s.past brief)
+    → (s : Story) × (journal_of text ≡ Ok s) × IsLegal s.cluster s.past × IsWithinLimits s.cluster s.past × IsRightlyCollected s.cluster s.past × (bytes ≡ report_text s.cluster s.past brief)
 text-reported text first rest from brief bytes short lines begun law r followed told =
     let to : Following = record { cluster = from.cluster; replay = r } in
-    (record { cluster = from.cluster; past = r.past }, journal-told text first rest from to short lines begun refl followed, law from.cluster r.past told.0, told.1)
+    (record { cluster = from.cluster; past = r.past }, journal-told text first rest from to short lines begun refl followed, told.0, told.1, law from.cluster r.past told.0, told.2)
 
 -- what follows from what is so of an answer is so of it
 pub if_ok-then : {X E : Type 0} (P Q : X → Type 0) (r : Result X E) → ((x : X) → P x → Q x) → IfOk r P → IfOk r Q

@@ -7,6 +7,7 @@ ghost use Rattle.journal_model.specs.Journals.{Replay, after_lines, journal_of};
 ghost use Rattle.journal_model.specs.Lines.{lines_of};
 ghost use Rattle.journal_model.specs.Verdicts.{report_text};
 ghost use Rattle.journal_player.specs.Faults.{IsPlayFault};
+ghost use Rattle.run_model.specs.Schedule.{IsWithinLimits};
 ghost use Rattle.crgc_ids.specs.declared.limits.TheConstants.{MOST_BYTES};
 
 use crate::fault::{Cause, PlayFault};
@@ -25,8 +26,8 @@ const NO_HEADER: PlayFault = PlayFault::Journal {
 /// The report of the history that the journal tells, in brief or in full, or why it tells none: its first faulty line with what
 /// is wrong there, or the limit that it passes. Linear in the text, beyond what the world and the collectors take for its events.
 pub fn play(alloc: Global, text: &[u8], brief: bool) -> Result<Vec<u8>, PlayFault>
-    ensures report { IfOk result (λ bytes. (s : Story) × (journal_of text.now ≡ Ok s) × IsRightlyCollected s.cluster s.past
-        × (bytes.items ≡ report_text s.cluster s.past brief)) }
+    ensures report { IfOk result (λ bytes. (s : Story) × (journal_of text.now ≡ Ok s) × IsLegal s.cluster s.past
+        × IsWithinLimits s.cluster s.past × IsRightlyCollected s.cluster s.past × (bytes.items ≡ report_text s.cluster s.past brief)) }
     ensures fault { IfErr result (λ f. IsPlayFault f (journal_of text.now)) }
 {
     if text.len() > MOST_BYTES {
@@ -52,7 +53,8 @@ fn report_of(
 ) -> Result<Vec<u8>, PlayFault>
     requires { length text.now ≤ MOST_BYTES }
     ensures report { IfOk result (λ bytes. (r : Replay) × (after_lines player.old.cluster 2 player.old.replay (lines_of text.now) ≡ Ok r)
-        × IsLegal player.old.cluster r.past × (bytes.items ≡ report_text player.old.cluster r.past brief)) }
+        × IsLegal player.old.cluster r.past × IsWithinLimits player.old.cluster r.past
+        × (bytes.items ≡ report_text player.old.cluster r.past brief)) }
     ensures fault { IfErr result (λ f. IsPlayFault f (after_lines player.old.cluster 2 player.old.replay (lines_of text.now))) }
 {
     match follow_all(alloc, player, text) {

@@ -3,6 +3,7 @@ ghost use Rattle.std.specs.Prelude.{◌≡◌, ◌≤◌, ◌<◌, ◌+◌, ◌^
 ghost use Rattle.history_model.specs.Legal.{IsLegal};
 ghost use Rattle.journal_model.specs.Journals.{after_counts, after_event, after_line, after_said, after_told};
 ghost use Rattle.journal_model.specs.Verdicts.{report_text};
+ghost use Rattle.run_model.specs.Schedule.{IsWithinLimits};
 ghost use Rattle.true_config.specs.Applying.{CarriesFew};
 ghost use Rattle.cluster_course.specs.Due.{lines_made_due};
 ghost use Rattle.journal_player.specs.Faults.{IsHalt};
@@ -136,7 +137,9 @@ impl Player {
     pub fn report(&self, alloc: Global, brief: bool) -> Result<Vec<u8>, NoMemory>
         ensures text { IfOk result (λ text. text.items ≡ report_text self.now.cluster self.now.replay.past brief) }
         ensures legal { IsLegal self.now.cluster self.now.replay.past }
+        ensures within { IsWithinLimits self.now.cluster self.now.replay.past }
     {
+        self.course.is_lawful();
         self.course.report(alloc, brief)
     }
 }
