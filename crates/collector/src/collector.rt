@@ -231,8 +231,8 @@ impl Collector {
     /// The verdict of the node's sweep at the cut: it stops each actor of its node that is known, not on a lost node, not marked
     /// and not stopped before, and says why. Whom it stops is remembered. After `NoMemory` all is as before. Constant time where
     /// nothing was folded or dropped since the last sweep; else time in proportion to what the folds since then touched and what
-    /// hung on it, times a logarithm at most. Linear time in the graph where a node was newly lost, or where the last
-    /// sweep ran out of memory.
+    /// hung on it, with all edges of these actors, also those of references that were given up, times a logarithm at most. Linear
+    /// time in the graph where a node was newly lost, or where the last sweep ran out of memory.
     pub fn sweep(&mut self) -> Result<Verdict, NoMemory>
         requires { IsSettled self.old }
         ensures ok { IfOk result (Sweeps self.old self.new) }

@@ -101,7 +101,7 @@ impl KeptMarks {
     }
 
     /// What the mark of the place stands on: the place itself where it is marked as a start, else an owner; None where it is not
-    /// marked. A place of which no change spares the mark has to be touched.
+    /// marked. Where a change may take that away, the place has to be touched.
     pub fn support(&self, place: u32) -> Option<u32>
         ensures { result ≡ support_of self.now.supports place }
     {

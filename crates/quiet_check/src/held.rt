@@ -1,4 +1,5 @@
-//! The references that actors hold after a list of events, the oldest first. Each function is quadratic in the events.
+//! The references that actors hold after a list of events, the oldest first. Each function is quadratic in the events, unless it says
+//! more.
 ghost use Rattle.std.specs.Prelude.{◌≡◌, ◌+◌, ◌*◌, ◌≤◌, ◌∷◌, ◌&&◌, ◌==◌, nat_lt, take, if◌then◌else◌, length, reverse};
 ghost use Rattle.history_model.specs.declared.events.Event.TheVariants.{Spawn};
 ghost use Rattle.history_model.specs.Cluster.{same_actor, newborn};

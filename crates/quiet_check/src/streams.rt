@@ -53,7 +53,7 @@ fn is_left_in_queue(cluster: Constants, events: &[Event], event: &Event) -> bool
     }
 }
 
-/// Whether some node that is up has entries that it did not publish. Cubic time.
+/// Whether some node that is up has entries that it did not publish. Quadratic time.
 pub fn has_entries(cluster: Constants, events: &[Event]) -> bool
     ensures { result ≡ list_any (leaves_entry cluster (reverse events.now)) (reverse events.now) }
 {
