@@ -113,3 +113,56 @@ fn counts_change_and_growth_is_cut_back(rt: HostRuntime) -> Result<(), Fail> {
     assert_eq!(rt; (table.edge_count(), table.place_count()), (0, 1));
     Ok(())
 }
+
+/// So many places, and edges from the first to each.
+fn first_to_each(table: &mut EdgeTable, places: u32) -> Result<(), Fail>
+    requires { (a b : Actor) → a.node ≡ 0 → b.node ≡ 0 → HasEnds table.old a b a.serial b.serial }
+    ensures { (a b : Actor) → a.node ≡ 0 → b.node ≡ 0 → HasEnds table.new a b a.serial b.serial }
+{
+    for _ in 0..places {
+        table.add_place()?;
+    }
+    for target in 0..places {
+        add(table, 0, target)?;
+    }
+    Ok(())
+}
+
+/// One reference is given along the edge.
+fn give_one(table: &mut EdgeTable, number: u32) {
+    if number < table.edge_count() && table.edge(number).given == 0 {
+        table.give(number, 1);
+    }
+}
+
+/// One reference is released along the edge.
+fn release_one(table: &mut EdgeTable, number: u32) {
+    if number < table.edge_count() && table.edge(number).released == 0 {
+        table.release(number, 1);
+    }
+}
+
+/// How many numbers of positive edges are told of those from the place, and of those to it.
+fn positive(table: &EdgeTable, place: u32) -> Result<(usize, usize), Fail> {
+    if place >= table.place_count() {
+        return Err(Fail::from("no such place"));
+    }
+    let from = table.positive_from(place).len();
+    Ok((from, table.positive_to(place).len()))
+}
+
+#[test]
+fn many_edges_that_are_not_positive_are_kept_apart(rt: HostRuntime) -> Result<(), Fail> {
+    let mut table = EdgeTable::new(rt.alloc());
+    first_to_each(&mut table, 200)?;
+    assert_eq!(rt; positive(&table, 0)?, (0, 1));
+    for number in 0..200 {
+        give_one(&mut table, number);
+    }
+    assert_eq!(rt; positive(&table, 0)?, (200, 1));
+    for number in 0..199 {
+        release_one(&mut table, number);
+    }
+    assert_eq!(rt; positive(&table, 0)?, (1, 1));
+    Ok(())
+}

@@ -6,6 +6,8 @@ use Rattle.std.proofs.MapsCrossingOver.{crosses as sets}
 use Rattle.edge_table.specs.contracts.ends.Ends as Ends
 use Rattle.edge_table.specs.contracts.table.EdgeTable as EdgeTable
 use Rattle.edge_table.specs.contracts.pair_index.PairIndex as PairIndex
+use Rattle.edge_table.specs.contracts.partition.Partition as Partition
+use Rattle.edge_table.specs.contracts.positive.PositiveEdges as PositiveEdges
 
 ends_send : IsSend Ends.the_row
 ends_send = search (crosses, sendable) depth 60 fits 100000
@@ -13,5 +15,11 @@ ends_send = search (crosses, sendable) depth 60 fits 100000
 index_send : IsSend PairIndex.the_row
 index_send = search (crosses, maps, sets, frees, sendable) depth 60 fits 100000
 
+partition_send : IsSend Partition.the_row
+partition_send = search (crosses, frees, sendable) depth 60 fits 100000
+
+positive_send : IsSend PositiveEdges.the_row
+positive_send = search (crosses, maps, sets, frees, sendable, partition_send) depth 60 fits 100000
+
 pub table_send : IsSend EdgeTable.the_row
-table_send = search (crosses, sendable, ends_send, index_send) depth 60 fits 100000
+table_send = search (crosses, sendable, ends_send, index_send, positive_send) depth 60 fits 100000

@@ -4,3 +4,5 @@ pub mod ListedLemmas
 pub mod PlaceLemmas
 pub mod TableLemmas
 pub mod Crossing
+mod PartitionLemmas
+mod PositiveLemmas

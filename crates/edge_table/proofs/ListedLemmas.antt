@@ -7,7 +7,9 @@ use Rattle.std.specs.Prelude.{nat_eq}
 use Rattle.crgc_ids.proofs.MembersLaws.{all-from_members}
 use Rattle.crgc_ids.specs.Members.{IsAmong}
 use Rattle.edge_table.specs.Ends.{numbers_of}
+use Rattle.edge_table.specs.Partition.{AreRising}
 use Rattle.edge_table.specs.Table.{no_edge}
+use Rattle.edge_table.proofs.IndexLemmas.{among-at}
 use Rattle.edge_table.specs.declared.table.Edge.{Edge}
 
 -- a number is one of a place's where the place stands there
@@ -66,6 +68,24 @@ numbers-few p k (x ∷ xs) =
       | true ↦ omega arith
       | false ↦ omega arith
     ]
+
+-- each is above those before it
+pub numbers-rising : (p k : ℕ) (xs : List ℕ) → AreRising (numbers_of p k xs)
+numbers-rising p k [] = λ i j less inside. absurd (omega arith)
+numbers-rising p k (x ∷ xs) =
+    let later = numbers-rising p (k + 1) xs in
+    elim (eqb p x) as (λ b. AreRising (cond b (k ∷ numbers_of p (k + 1) xs) (numbers_of p (k + 1) xs))) [
+      | true ↦ first later
+      | false ↦ later
+    ]
+  where
+    first : AreRising (numbers_of p (k + 1) xs) → (i j : ℕ) → i < j → j < length (k ∷ numbers_of p (k + 1) xs) → get_or (k ∷ numbers_of p (k + 1) xs) i 0 < get_or (k ∷ numbers_of p (k + 1) xs) j 0
+    first later i zero less inside = absurd (omega arith)
+    first later zero (suc j) less inside =
+        let there = numbers-there p (k + 1) (get_or (numbers_of p (k + 1) xs) j 0) xs (among-at (numbers_of p (k + 1) xs) j 0 (omega arith)) in
+        let is = there.1 in
+        omega arith
+    first later (suc i) (suc j) less inside = later i j (omega arith) (omega arith)
 
 -- the end of the edge with a number
 pub end_at : (end : Edge → ℕ) → end no_edge ≡ 0 → (edges : List Edge) (i : ℕ) → get_or (map end edges) i 0 ≡ end (get_or edges i no_edge)

@@ -1,8 +1,10 @@
 -- What contracts see of a table of edges.
-use Rattle.std.specs.Prelude.{◌≡◌, ◌&&◌, ◌<◌, ◌^◌, ◌↔◌, ℕ, Bool, List, Option, Some, length, map, position, slice_index_or, slice_set}
+use Rattle.std.specs.Prelude.{◌≡◌, ◌&&◌, ◌<◌, ◌^◌, ◌↔◌, ℕ, Bool, true, List, Option, Some, length, map, nat_lt, position, slice_index_or, slice_set}
 use Rattle.std.specs.List.{AllByRecursion, IsDistinct}
 use Rattle.crgc_ids.specs.Actor.{Actor, same_actor}
+use Rattle.crgc_ids.specs.Members.{IsAmong}
 use Rattle.edge_table.specs.Ends.{PlaceEnds, no_ends, numbers_of}
+use Rattle.edge_table.specs.Partition.{AreParted, Parted}
 use Rattle.edge_table.specs.declared.table.Edge.{Edge}
 
 -- the pairs of an owner and a target in the order in which they were added, what is kept of each, and how many places there are
@@ -42,6 +44,19 @@ edges_from edges place = numbers_of place 0 (map (λ e. e.owner) edges)
 abbrev pub edges_to : List Edge → ℕ → List ℕ
 edges_to edges place = numbers_of place 0 (map (λ e. e.target) edges)
 
+-- whether more references were given along the edge than released
+abbrev pub is_positive : Edge → Bool
+is_positive e = nat_lt e.released e.given
+
+-- whether the edge with this number is
+abbrev pub is_positive_at : List Edge → ℕ → Bool
+is_positive_at edges n = is_positive (slice_index_or edges n no_edge)
+
+-- each positive edge that has this place at the end has one of these numbers, and each of them is that of an edge with this end
+pub record ArePositive (end : Edge → ℕ) (edges : List Edge) (place : ℕ) (numbers : List ℕ) : Type 0 where
+  pub all : (n : ℕ) → n < length edges → end (slice_index_or edges n no_edge) ≡ place → is_positive_at edges n ≡ true → IsAmong n numbers
+  pub alone : (n : ℕ) → IsAmong n numbers → (n < length edges) × (end (slice_index_or edges n no_edge) ≡ place)
+
 -- the edge with this number is changed, and no other
 abbrev pub with_edge : Edges → ℕ → Edge → Edges
 with_edge t number edge = record t { edges = slice_set t.edges number edge }
@@ -55,3 +70,8 @@ pub record IsTable (pairs : List (Actor × Actor)) (edges : List Edge) (places :
   pub ends : AllByRecursion (λ e. (e.owner < length places) × (e.target < length places)) edges
   pub from : (p : ℕ) → (slice_index_or places p no_ends).from ≡ edges_from edges p
   pub to : (p : ℕ) → (slice_index_or places p no_ends).to ≡ edges_to edges p
+
+-- what is kept of the places from which, and to which, many edges lead is right
+pub record ArePositiveKept (edges : List Edge) (owners targets : List (ℕ × Parted)) : Type 0 where
+  pub from : AreParted (edges_from edges) (is_positive_at edges) owners
+  pub to : AreParted (edges_to edges) (is_positive_at edges) targets

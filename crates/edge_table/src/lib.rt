@@ -5,6 +5,8 @@ mod ends;
 pub mod laws;
 mod near;
 mod pair_index;
+mod partition;
+mod positive;
 mod table;
 
 pub use table::{Edge, EdgeTable};

@@ -4,11 +4,12 @@ ghost use Rattle.std.specs.Bool.{Decides};
 ghost use Rattle.std.specs.List.{IsDistinct};
 ghost use Rattle.edge_table.specs.Ends.{HasRoom, HaveSameLists};
 ghost use Rattle.edge_table.specs.declared.near.TheConstants.{NEAR};
-ghost use Rattle.edge_table.specs.Table.{HasEnds, edge_at, edges_from, edges_to, number_at, same_pair, with_edge};
+ghost use Rattle.edge_table.specs.Table.{ArePositive, HasEnds, edge_at, edges_from, edges_to, number_at, same_pair, with_edge};
 
 use crate::ends::Ends;
 use crate::near::{NEAR, number_near};
 use crate::pair_index::PairIndex;
+use crate::positive::{MANY, PositiveEdges, is_positive};
 use crgc_ids::{ActorId, NoMemory};
 use std::alloc::Global;
 use std::marker::Model;
@@ -23,25 +24,29 @@ pub struct Edge {
 }
 
 /// The edges between actors, numbered from 0 in the order in which they were added, and for each place the numbers of those
-/// that lead from it and to it. It keeps its allocator. Contracts see the pairs, the edges and how many places there are.
+/// that lead from it and to it, the positive ones once more where there are many. It keeps its allocator. Contracts see the pairs,
+/// the edges and how many places there are.
 #[derive(Drop)]
 pub struct EdgeTable {
     alloc: Global,
     pairs: PairIndex,
     edges: Vec<Edge>,
     places: Vec<Ends>,
+    by_owner: PositiveEdges,
+    by_target: PositiveEdges,
 }
 
 impl Model for EdgeTable {
     ghost use Rattle.std.specs.Prelude.{length};
     ghost use Rattle.edge_table.specs.Index.{AreFound};
-    ghost use Rattle.edge_table.specs.Table.{Edges, IsTable};
+    ghost use Rattle.edge_table.specs.Table.{ArePositiveKept, Edges, IsTable};
 
     ghost Value = { Edges };
 
     ghost view = { λ t. record { pairs = t.pairs.pairs; edges = t.edges.items; places = length t.places.items } };
 
-    ghost invariant = { λ t. IsTable t.pairs.pairs t.edges.items t.places.items × AreFound t.pairs t.edges.items };
+    ghost invariant = { λ t. IsTable t.pairs.pairs t.edges.items t.places.items × (AreFound t.pairs t.edges.items
+        × ArePositiveKept t.edges.items t.by_owner t.by_target) };
 }
 
 impl EdgeTable {
@@ -54,6 +59,8 @@ impl EdgeTable {
             pairs: PairIndex::new(alloc),
             edges: Vec::new(alloc),
             places: Vec::new(alloc),
+            by_owner: PositiveEdges::new(alloc),
+            by_target: PositiveEdges::new(alloc),
         }
     }
 
@@ -135,7 +142,7 @@ impl EdgeTable {
 
     /// There is one edge more, the last, with nothing given and released; its number is the answer. After `NoMemory`, which
     /// comes too where there are 2^32 - 1 edges, all is as before. Constant time, or logarithmic time where the edge is among the
-    /// first 8 in neither list; amortized.
+    /// first 8 in neither list, or its owner or its target has more than 128 edges; amortized.
     pub fn add(
         &mut self,
         owner: ActorId,
@@ -171,9 +178,15 @@ impl EdgeTable {
             given: 0,
             released: 0,
         });
-        self.places[from].push_from(number as u32);
-        self.places[to].push_to(number as u32);
-        Ok(number as u32)
+        let number = number as u32;
+        self.places[from].push_from(number);
+        self.places[to].push_to(number);
+        let edges = self.edges.as_slice();
+        self.by_owner
+            .grow(owner_place, self.places[from].from(), number, edges);
+        self.by_target
+            .grow(target_place, self.places[to].to(), number, edges);
+        Ok(number)
     }
 
     /// The last edge is taken away. Logarithmic time.
@@ -188,6 +201,8 @@ impl EdgeTable {
         if let Some(edge) = self.edges.pop() {
             self.places[edge.owner as usize].pop_from();
             self.places[edge.target as usize].pop_to();
+            self.by_owner.forget(edge.owner);
+            self.by_target.forget(edge.target);
         }
     }
 
@@ -201,31 +216,58 @@ impl EdgeTable {
         self.edges[number as usize]
     }
 
-    /// So many more references are given along the edge.
+    /// So many more references are given along the edge. Constant time, or logarithmic time where it becomes positive.
     pub fn give(&mut self, number: u32, count: u64)
         requires some { number < length self.old.edges }
         requires fits { (edge_at self.old number).given + count < 2 ^ 64 }
         ensures { let e = edge_at self.old number in self.new ≡ with_edge self.old number (record e { given = e.given + count }) }
     {
-        self.edges[number as usize].given += count;
+        let mut edge = self.edges[number as usize];
+        edge.given += count;
+        self.write(number, edge);
     }
 
-    /// So many of the references that were given along the edge are taken back.
+    /// So many of the references that were given along the edge are taken back. Constant time, or logarithmic time where it is
+    /// positive no longer.
     pub fn take_back(&mut self, number: u32, count: u64)
         requires some { number < length self.old.edges }
         requires given { count ≤ (edge_at self.old number).given }
         ensures { let e = edge_at self.old number in self.new ≡ with_edge self.old number (record e { given = e.given - count }) }
     {
-        self.edges[number as usize].given -= count;
+        let mut edge = self.edges[number as usize];
+        edge.given -= count;
+        self.write(number, edge);
     }
 
-    /// So many more references are released along the edge.
+    /// So many more references are released along the edge. Constant time, or logarithmic time where it is positive no longer.
     pub fn release(&mut self, number: u32, count: u64)
         requires some { number < length self.old.edges }
         requires fits { (edge_at self.old number).released + count < 2 ^ 64 }
         ensures { let e = edge_at self.old number in self.new ≡ with_edge self.old number (record e { released = e.released + count }) }
     {
-        self.edges[number as usize].released += count;
+        let mut edge = self.edges[number as usize];
+        edge.released += count;
+        self.write(number, edge);
+    }
+
+    /// This is kept of the edge from now on, which keeps its ends. Logarithmic time where it became positive or is it no longer,
+    /// else constant time.
+    fn write(&mut self, number: u32, edge: Edge)
+        requires some { number < length self.old.edges }
+        requires owner { edge.owner ≡ (edge_at self.old number).owner }
+        requires target { edge.target ≡ (edge_at self.old number).target }
+        ensures { self.new ≡ with_edge self.old number edge }
+    {
+        let old = self.edges[number as usize];
+        self.edges[number as usize] = edge;
+        let counts = is_positive(edge);
+        if is_positive(old) == counts {
+            return;
+        }
+        let from = self.places[edge.owner as usize].from();
+        self.by_owner.set(edge.owner, from, number, counts);
+        let to = self.places[edge.target as usize].to();
+        self.by_target.set(edge.target, to, number, counts);
     }
 
     /// The numbers of the edges from the place, rising.
@@ -244,6 +286,38 @@ impl EdgeTable {
         ensures few { length result.now < 2 ^ 32 }
     {
         self.places[place as usize].to()
+    }
+
+    /// The numbers of the positive edges from the place, along which more references were given than released. If it has more than
+    /// 128 edges there is no other number, as long as there was memory to keep them apart; else there may be others of its edges.
+    /// Constant time, or logarithmic time where it has more than 128 edges.
+    pub fn positive_from(&self, place: u32) -> &[u32]
+        requires { place < self.now.places }
+        ensures { ArePositive (λ e. e.owner) self.now.edges place result.now }
+    {
+        let numbers = self.edges_from(place);
+        if numbers.len() <= MANY {
+            return numbers;
+        }
+        match self.by_owner.positive(place) {
+            Some(positive) => positive,
+            None => numbers,
+        }
+    }
+
+    /// The numbers of the positive edges to the place, as `positive_from` says it of those from it.
+    pub fn positive_to(&self, place: u32) -> &[u32]
+        requires { place < self.now.places }
+        ensures { ArePositive (λ e. e.target) self.now.edges place result.now }
+    {
+        let numbers = self.edges_to(place);
+        if numbers.len() <= MANY {
+            return numbers;
+        }
+        match self.by_target.positive(place) {
+            Some(positive) => positive,
+            None => numbers,
+        }
     }
 }
 

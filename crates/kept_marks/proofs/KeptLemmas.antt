@@ -1,76 +1,84 @@
 -- What one place stands on, and what hangs on it.
-use Rattle.std.proofs.Common.{◌≡◌, ◌≢◌, ◌⊎◌, ◌<◌, ◌≤◌, ◌+◌, ℕ, Bool, true, false, List, Option, None, Some, length, get_or, refl, sym, ◌∙◌, ap, inl, inr, arith}
-use Rattle.std.proofs.lemmas.Bool.{cases_eq, cases_lt, false≢true}
-use Rattle.std.proofs.lemmas.List.{get_or_past}
+use Rattle.std.proofs.Common.{◌≡◌, ◌≢◌, ◌⊎◌, ◌<◌, ◌≤◌, ◌+◌, ℕ, Bool, true, false, List, [], Option, None, Some, length, get_or, take, refl, sym, ◌∙◌, ap, subst, inl, inr, arith}
+use Rattle.std.proofs.lemmas.Bool.{false≢true}
 use Rattle.std.specs.Option.{IfSome, is_some}
-use Rattle.place_marks.specs.Graph.{Graph, IsGraph, IsOwner, IsStep}
+use Rattle.crgc_ids.specs.Members.{IsAmong}
+use Rattle.place_marks.specs.Graph.{AreFrom, AreTo, Graph, IsGraph, IsStep}
+use Rattle.place_marks.proofs.NumberLemmas.{among-all, among-at, among-more}
 use Rattle.kept_marks.specs.PlaceSet.{has_place}
 use Rattle.kept_marks.specs.Kept.{AddsTarget, AddsTargets, IsUnsupported, is_supported, support_of}
 
 -- ---- the targets of a place
 
--- what the loop over its edges has put into the set
-pub record HasPut (g : Graph) (supports : List (Option ℕ)) (old new : List Bool) (b : ℕ) (on : Option ℕ) (count : ℕ) : Type 0 where
+-- what the loop over these numbers of its edges has put into the set
+pub record HasPut (g : Graph) (supports : List (Option ℕ)) (old new : List Bool) (b : ℕ) (on : Option ℕ) (numbers : List ℕ) : Type 0 where
   pub room : length new ≡ length old
   pub kept : (a : ℕ) → has_place old a ≡ true → has_place new a ≡ true
-  pub added : (i a : ℕ) → i < count → get_or (g.targets b) i None ≡ Some a → support_of supports a ≡ on → has_place new a ≡ true
+  pub added : (n a : ℕ) → IsAmong n numbers → g.step n ≡ Some (b, a) → support_of supports a ≡ on → has_place new a ≡ true
   pub others : (a : ℕ) → has_place new a ≡ true → (has_place old a ≡ true) ⊎ (IsStep g b a × (support_of supports a ≡ on))
 
-pub put-none : (g : Graph) (supports : List (Option ℕ)) (old : List Bool) (b : ℕ) (on : Option ℕ) → HasPut g supports old old b on 0
+pub put-none : (g : Graph) (supports : List (Option ℕ)) (old : List Bool) (b : ℕ) (on : Option ℕ) → HasPut g supports old old b on []
 put-none g supports old b on =
-    record { room = refl; kept = λ a h. h; added = λ i a less read same. absurd (omega arith); others = λ a h. inl h }
+    record { room = refl; kept = λ a h. h; added = λ n a none read same. absurd none; others = λ a h. inl h }
 
-pub put-on : (g : Graph) (supports : List (Option ℕ)) (old now new : List Bool) (b : ℕ) (on target : Option ℕ) (i : ℕ) → HasPut g supports old now b on i → target ≡ get_or (g.targets b) i None → AddsTarget supports now new target on → HasPut g supports old new b on (i + 1)
-put-on g supports old now new b on target i has read adds =
+pub put-on : (g : Graph) (supports : List (Option ℕ)) (old now new : List Bool) (b : ℕ) (on : Option ℕ) (step : Option (ℕ × ℕ)) (numbers : List ℕ) (i : ℕ) → AreFrom g b numbers → i < length numbers → HasPut g supports old now b on (take i numbers) → step ≡ g.step (get_or numbers i 0) → AddsTarget supports now new step on → HasPut g supports old new b on (take (i + 1) numbers)
+put-on g supports old now new b on step numbers i from inside has read adds =
     record {
       room = adds.room ∙ has.room;
       kept = λ a h. adds.kept a (has.kept a h);
-      added = λ j a less at same. elim (cases_eq j i) [
-        | inl last ↦ adds.added a (read ∙ ap (λ k. get_or (g.targets b) k None) (sym last) ∙ at) same
-        | inr other ↦ (let before : j < i = omega arith in adds.kept a (has.added j a before at same))
+      added = λ n a h at same. elim (among-more numbers i n inside h) [
+        | inl earlier ↦ adds.kept a (has.added n a earlier at same)
+        | inr last ↦ adds.added b a (read ∙ sym (ap g.step last) ∙ at) same
       ];
       others = λ a h. elim (adds.others a h) [
         | inl earlier ↦ has.others a earlier
-        | inr here ↦ inr ((i, sym read ∙ here.0), here.1)
+        | inr here ↦ inr ((number, from_b a here.0 (sym read ∙ here.1)), here.2)
       ];
     }
+  where
+    number : ℕ
+    number = get_or numbers i 0
 
-pub put-all : (g : Graph) (supports : List (Option ℕ)) (old new : List Bool) (b : ℕ) (on : Option ℕ) (count : ℕ) → HasPut g supports old new b on count → length (g.targets b) ≤ count → AddsTargets g supports old new b on
-put-all g supports old new b on count has all =
+    from_b : (a c : ℕ) → g.step number ≡ Some (c, a) → g.step number ≡ Some (b, a)
+    from_b a c is = is ∙ ap (λ (q : ℕ). Some (q, a)) (from.alone number c a (among-at numbers i 0 inside) is)
+
+pub put-all : (g : Graph) (supports : List (Option ℕ)) (old new : List Bool) (b : ℕ) (on : Option ℕ) (numbers : List ℕ) (i : ℕ) → AreFrom g b numbers → length numbers ≤ i → HasPut g supports old new b on (take i numbers) → AddsTargets g supports old new b on
+put-all g supports old new b on numbers i from all has =
     record {
       room = has.room;
       kept = has.kept;
-      added = λ a step same. has.added step.0 a (inside a step) step.1 same;
+      added = λ a step same. has.added step.0 a (among-all numbers i step.0 all (from.all step.0 a step.1)) step.1 same;
       others = has.others;
     }
-  where
-    inside : (a : ℕ) (step : IsStep g b a) → step.0 < count
-    inside a step = elim (cases_lt step.0 (length (g.targets b))) [
-      | inl less ↦ omega arith
-      | inr past ↦ absurd (cc (get_or_past (g.targets b) step.0 None past, step.1))
-    ]
 
-pub target-within : (g : Graph) (b i n : ℕ) (target : Option ℕ) → IsGraph g → b < g.places → g.places ≤ n → target ≡ get_or (g.targets b) i None → IfSome target (λ a. a < n)
-target-within g b i n None whole inside room read = tt
-target-within g b i n (Some a) whole inside room read = (let there = whole.target b a inside (i, sym read) in omega arith)
+pub target-within : (g : Graph) (number n : ℕ) (step : Option (ℕ × ℕ)) → IsGraph g → g.places ≤ n → step ≡ g.step number → IfSome step (λ s. s.1 < n)
+target-within g number n None whole room read = tt
+target-within g number n (Some (b, a)) whole room read = (let there = (whole b a (number, sym read)).1 in omega arith)
 
 -- ---- what can support a place
 
-pub owner-step : (g : Graph) (a b i : ℕ) → IsGraph g → a < g.places → Some b ≡ get_or (g.owners a) i None → (b < g.places) × IsStep g b a
-owner-step g a b i whole inside read =
-    let owner : IsOwner g a b = (i, sym read) in
-    let there = whole.owner a b inside owner in
-    (there, (whole.paired b a there inside).1 owner)
+-- none of the edges with these numbers leads from a marked place
+abbrev pub AreUnmarked : Graph → List (Option ℕ) → List ℕ → Type 0
+AreUnmarked g supports numbers = (n : ℕ) → IsAmong n numbers → IfSome (g.step n) (λ s. is_supported supports s.0 ≡ false)
 
-pub unsupported-all : (g : Graph) (supports : List (Option ℕ)) (a count : ℕ) → IsGraph g → a < g.places → g.is_start a ≡ false → ((i b : ℕ) → i < count → get_or (g.owners a) i None ≡ Some b → is_supported supports b ≡ false) → length (g.owners a) ≤ count → IsUnsupported g supports a
-unsupported-all g supports a count whole here start none all =
-    record { start = start; owners = λ b there step. (let owner = (whole.paired b a there here).0 step in none owner.0 b (inside b owner) owner.1) }
-  where
-    inside : (b : ℕ) (owner : IsOwner g a b) → owner.0 < count
-    inside b owner = elim (cases_lt owner.0 (length (g.owners a))) [
-      | inl less ↦ omega arith
-      | inr past ↦ absurd (cc (get_or_past (g.owners a) owner.0 None past, owner.1))
-    ]
+pub unmarked-on : (g : Graph) (supports : List (Option ℕ)) (step : Option (ℕ × ℕ)) (numbers : List ℕ) (i : ℕ) → i < length numbers → AreUnmarked g supports (take i numbers) → step ≡ g.step (get_or numbers i 0) → IfSome step (λ s. is_supported supports s.0 ≡ false) → AreUnmarked g supports (take (i + 1) numbers)
+unmarked-on g supports step numbers i inside before read free n h = elim (among-more numbers i n inside h) [
+  | inl earlier ↦ before n earlier
+  | inr last ↦ subst (λ o. IfSome o (λ s. is_supported supports s.0 ≡ false)) (read ∙ sym (ap g.step last)) free
+]
+
+pub unsupported-all : (g : Graph) (supports : List (Option ℕ)) (a : ℕ) (numbers : List ℕ) (i : ℕ) → AreTo g a numbers → length numbers ≤ i → g.is_start a ≡ false → AreUnmarked g supports (take i numbers) → IsUnsupported g supports a
+unsupported-all g supports a numbers i to all start none =
+    record {
+      start = start;
+      owners = λ b there step. subst (λ o. IfSome o (λ s. is_supported supports s.0 ≡ false)) step.1
+          (none step.0 (among-all numbers i step.0 all (to.all step.0 b step.1)));
+    }
+
+-- an edge among the numbers leads from a place to this one
+pub owner-step : (g : Graph) (a b c : ℕ) (numbers : List ℕ) (i : ℕ) → AreTo g a numbers → i < length numbers → g.step (get_or numbers i 0) ≡ Some (b, c) → IsStep g b a
+owner-step g a b c numbers i to inside is =
+    (get_or numbers i 0, is ∙ ap (λ (q : ℕ). Some (b, q)) (to.alone (get_or numbers i 0) b c (among-at numbers i 0 inside) is))
 
 -- a place that is marked is another than one that is not
 pub apart : (supports : List (Option ℕ)) (a b : ℕ) → support_of supports a ≡ None → is_supported supports b ≡ true → b ≢ a

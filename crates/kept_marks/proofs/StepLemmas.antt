@@ -197,7 +197,7 @@ settle-marked g s s' t q q' f p b kept clean there inside_b support mark adds =
           | inr other ↦ (let before = kept.queued a (sym (get_or-set_other q p a false false other) ∙ earlier) in
               (before.0, on-other s s' p a (Some b) mark other ∙ before.1))
         ]
-        | inr here ↦ (kept.whole.target p a inside_p here.0, here.1)
+        | inr here ↦ ((kept.whole p a here.0).1, here.1)
       ];
       stands = λ a inside no_touched no_queued. elim (cases_eq a p) [
         | inl same ↦ subst (Stands g s') (sym same) here

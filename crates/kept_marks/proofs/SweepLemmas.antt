@@ -42,7 +42,7 @@ reached-kept g k kept clean settled = reached-closed g (λ a. (a < g.places) × 
 
     on : (b a : ℕ) → (b < g.places) × (is_supported k.supports b ≡ true) → IsStep g b a → (a < g.places) × (is_supported k.supports a ≡ true)
     on b a there step =
-        let inside = kept.whole.target b a there.0 step in
+        let inside = (kept.whole b a step).1 in
         (inside, true_from_ne_false (is_supported k.supports a) (λ free. false≢true (sym ((none a inside free).owners b there.0 step) ∙ there.1)))
 
 pub swept : (g : Graph) (old new : Kept) → IsKept g new → IsEmpty new.touched → IsEmpty new.queued → KeepsWatch old new → IsSwept g old new

@@ -13,12 +13,12 @@ use std::marker::Model;
 
 /// What the mark of each place stands on, and the places that are to be looked at. Whoever changes the graph touches each place
 /// whose mark may no longer be right: one that became a start or is none any more, and one to which an edge leads whose sign
-/// changed. Beside each support stands where its edge was among those to the place, so that one look tells whether it still
-/// leads there. Contracts see the supports and the sets of places that are touched, queued and fallen.
+/// changed. Beside each support stands the number of the edge by which it leads to the place, so that one look tells whether it
+/// still does. Contracts see the supports and the sets of places that are touched, queued and fallen.
 #[derive(Drop)]
 pub struct KeptMarks {
     supports: Vec<Option<u32>>,
-    indices: Vec<u32>,
+    edges: Vec<u32>,
     touched: PlaceSet,
     queued: PlaceSet,
     fallen: PlaceSet,
@@ -46,7 +46,7 @@ impl KeptMarks {
     {
         KeptMarks {
             supports: Vec::new(alloc),
-            indices: Vec::new(alloc),
+            edges: Vec::new(alloc),
             touched: PlaceSet::new(alloc),
             queued: PlaceSet::new(alloc),
             fallen: PlaceSet::new(alloc),
@@ -74,7 +74,7 @@ impl KeptMarks {
         if places <= self.supports.len() {
             return Ok(());
         }
-        if self.indices.resize(places, 0).is_err() {
+        if self.edges.resize(places, 0).is_err() {
             return Err(NoMemory);
         }
         match self.supports.resize(places, None) {
@@ -191,7 +191,7 @@ impl KeptMarks {
             self.queued.put(place);
             return true;
         }
-        let edge = index_at(self.indices.as_slice(), place);
+        let edge = edge_at(self.edges.as_slice(), place);
         if stands(graph, self.supports.as_slice(), place, edge) {
             return true;
         }
@@ -240,7 +240,7 @@ impl KeptMarks {
             return true;
         };
         self.supports[place as usize] = Some(support);
-        note_index(self.indices.as_mut_slice(), place, edge);
+        note_edge(self.edges.as_mut_slice(), place, edge);
         put_targets(
             graph,
             self.supports.as_slice(),
@@ -252,21 +252,18 @@ impl KeptMarks {
     }
 }
 
-/// Where the edge of the place's support was among those to the place, or any number: a mark of which it does not tell the edge is
+/// The number of the edge by which the place's support leads to it, or any number: a mark of which it does not tell the edge is
 /// supported anew.
-fn index_at(indices: &[u32], place: u32) -> usize {
-    match indices.get(place as usize) {
-        Some(index) => *index as usize,
+fn edge_at(edges: &[u32], place: u32) -> u32 {
+    match edges.get(place as usize) {
+        Some(edge) => *edge,
         None => 0,
     }
 }
 
-/// The edge of the place's support has this index among those to the place.
-fn note_index(indices: &mut [u32], place: u32, index: usize) {
-    let Ok(index) = u32::try_from(index) else {
-        return;
-    };
-    if let Some(noted) = indices.get_mut(place as usize) {
-        *noted = index;
+/// The place's support leads to it by the edge with this number.
+fn note_edge(edges: &mut [u32], place: u32, edge: u32) {
+    if let Some(noted) = edges.get_mut(place as usize) {
+        *noted = edge;
     }
 }

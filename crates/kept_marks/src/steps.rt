@@ -7,10 +7,9 @@ ghost use Rattle.kept_marks.specs.Kept.{AddsTarget, AddsTargets, IsSupport, IsUn
 use crate::place_set::PlaceSet;
 use place_marks::PlaceGraph;
 
-/// Whether the mark of the place stands: it has a support, which can support it. The edge from an owner is looked for only at this
-/// index, so where it stands at another one the answer is no. Constant time.
-pub fn stands<G: PlaceGraph>(graph: &G, supports: &[Option<u32>], place: u32, index: usize) -> bool
-    requires whole { IsGraph (G.graph graph.now) }
+/// Whether the mark of the place stands: it has a support, which can support it. The edge from an owner is looked for only under
+/// this number, so where it has another one the answer is no. Constant time.
+pub fn stands<G: PlaceGraph>(graph: &G, supports: &[Option<u32>], place: u32, edge: u32) -> bool
     requires room { (G.graph graph.now).places ≤ length supports.now }
     requires place { place < (G.graph graph.now).places }
     requires within { (b : ℕ) → support_of supports.now place ≡ Some b → b < (G.graph graph.now).places }
@@ -25,32 +24,27 @@ pub fn stands<G: PlaceGraph>(graph: &G, supports: &[Option<u32>], place: u32, in
     if supports[support as usize].is_none() {
         return false;
     }
-    has_owner(graph, place, index, support)
+    leads(graph, edge, support, place)
 }
 
-/// Whether the edge with this index, of those to the place, is positive and leads from the owner.
-fn has_owner<G: PlaceGraph>(graph: &G, place: u32, index: usize, owner: u32) -> bool
-    requires whole { IsGraph (G.graph graph.now) }
-    requires place { place < (G.graph graph.now).places }
+/// Whether the edge with this number is positive and leads from the owner to the place.
+fn leads<G: PlaceGraph>(graph: &G, edge: u32, owner: u32, place: u32) -> bool
     ensures { IsTrue result → IsStep (G.graph graph.now) owner place }
 {
-    if index >= graph.count_to(place) {
-        return false;
-    }
-    match graph.owner(place, index) {
-        Some(found) => found == owner,
+    match graph.step(edge) {
+        Some((from, to)) => from == owner && to == place,
         None => false,
     }
 }
 
 /// What can support the place, which is not marked: the place itself, if it is a start, or else the first owner that is marked
-/// and has a positive edge to it, beside the index of that edge; None exactly where nothing can. Linear time in the number of
+/// and has a positive edge to it, beside the number of that edge; None exactly where nothing can. Linear time in the number of
 /// edges to the place.
 pub fn find_support<G: PlaceGraph>(
     graph: &G,
     supports: &[Option<u32>],
     place: u32,
-) -> Option<(u32, usize)>
+) -> Option<(u32, u32)>
     requires whole { IsGraph (G.graph graph.now) }
     requires room { (G.graph graph.now).places ≤ length supports.now }
     requires place { place < (G.graph graph.now).places }
@@ -62,10 +56,11 @@ pub fn find_support<G: PlaceGraph>(
     if graph.is_start(place) {
         return Some((place, 0));
     }
-    for index in 0..graph.count_to(place) {
-        if let Some(owner) = graph.owner(place, index) {
+    let numbers = graph.edges_to(place);
+    for number in numbers {
+        if let Some((owner, _)) = graph.step(*number) {
             if supports[owner as usize].is_some() {
-                return Some((owner, index));
+                return Some((owner, *number));
             }
         }
     }
@@ -87,18 +82,24 @@ pub fn put_targets<G: PlaceGraph>(
     requires place { place < (G.graph graph.now).places }
     ensures { AddsTargets (G.graph graph.now) supports.now set.old set.new place on }
 {
-    for index in 0..graph.count_from(place) {
-        put_target(supports, set, graph.target(place, index), on);
+    let numbers = graph.edges_from(place);
+    for number in numbers {
+        put_target(supports, set, graph.step(*number), on);
     }
 }
 
-/// The target, if there is one, is in the set too where this is its support.
-fn put_target(supports: &[Option<u32>], set: &mut PlaceSet, target: Option<u32>, on: Option<u32>)
-    requires within { IfSome target (λ a. a < length supports.now) }
+/// The target of the edge, if it is positive, is in the set too where this is its support.
+fn put_target(
+    supports: &[Option<u32>],
+    set: &mut PlaceSet,
+    step: Option<(u32, u32)>,
+    on: Option<u32>,
+)
+    requires within { IfSome step (λ s. s.1 < length supports.now) }
     requires set { length supports.now ≤ length set.old }
-    ensures { AddsTarget supports.now set.old set.new target on }
+    ensures { AddsTarget supports.now set.old set.new step on }
 {
-    let Some(found) = target else {
+    let Some((_, found)) = step else {
         return;
     };
     if is_same(supports[found as usize], on) {

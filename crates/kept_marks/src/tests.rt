@@ -1,5 +1,5 @@
 //! A graph of two places, the first of which is a start and stops to be one.
-ghost use Rattle.std.specs.Prelude.{◌==◌, cond, false, Some, [], ◌∷◌};
+ghost use Rattle.std.specs.Prelude.{◌==◌, cond, false, None, Some};
 
 use crate::KeptMarks;
 use place_marks::PlaceGraph;
@@ -15,8 +15,7 @@ impl PlaceGraph for Pair {
     ghost graph = { λ r. record {
       places = 2;
       is_start = λ p. cond (p == 0) r.starts false;
-      targets = λ p. cond (p == 0) (Some 1 ∷ []) [];
-      owners = λ p. cond (p == 1) (Some 0 ∷ []) [];
+      step = λ n. cond (n == 0) (Some (0, 1)) None;
     } };
 
     fn place_count(&self) -> u32 {
@@ -27,20 +26,16 @@ impl PlaceGraph for Pair {
         place == 0 && self.starts
     }
 
-    fn count_from(&self, place: u32) -> usize {
-        if place == 0 { 1 } else { 0 }
+    fn step(&self, number: u32) -> Option<(u32, u32)> {
+        if number == 0 { Some((0, 1)) } else { None }
     }
 
-    fn target(&self, _place: u32, _index: usize) -> Option<u32> {
-        Some(1)
+    fn edges_from(&self, place: u32) -> &[u32] {
+        if place == 0 { &[0] } else { &[] }
     }
 
-    fn count_to(&self, place: u32) -> usize {
-        if place == 1 { 1 } else { 0 }
-    }
-
-    fn owner(&self, _place: u32, _index: usize) -> Option<u32> {
-        Some(0)
+    fn edges_to(&self, place: u32) -> &[u32] {
+        if place == 1 { &[0] } else { &[] }
     }
 }
 

@@ -27,7 +27,7 @@ reached-closed g P first on a (r, bs, inside, start, chain) = along r bs (first 
 
 -- what is reached is a place
 pub reached-inside : (g : Graph) → IsGraph g → (a : ℕ) → IsReached g a → a < g.places
-reached-inside g whole = reached-closed g (λ a. a < g.places) (λ r inside start. inside) (λ b a inside step. whole.target b a inside step)
+reached-inside g whole = reached-closed g (λ a. a < g.places) (λ r inside start. inside) (λ b a inside step. (whole b a step).1)
 
 -- ---- the worklist
 
@@ -48,7 +48,7 @@ spread-on g old new done b whole spread more place marked targets =
       starts = λ p inside start. extends.marks p (spread.starts p inside start);
       reached = λ p h. elim (targets.others p h) [
         | inl before ↦ spread.reached p before
-        | inr step ↦ (let there = spread.reached b marked in (whole.target b p there.0 step, reached-on g b p there.1 step))
+        | inr step ↦ (let there = spread.reached b marked in ((whole b p step).1, reached-on g b p there.1 step))
       ];
       targets = λ k less a step. elim (cases_eq k done) [
         | inl last ↦ targets.targets a (subst (λ c. IsStep g c a) (ap (λ n. get_or new.order n 0) last ∙ extends.order done more ∙ sym place) step)

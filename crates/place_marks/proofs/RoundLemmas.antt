@@ -1,16 +1,16 @@
 -- Rounds of marking: they mark what is reached, until one adds no mark.
-use Rattle.std.proofs.Common.{◌≡◌, ◌<◌, ◌≤◌, ◌+◌, ◌-◌, ◌++◌, ◌||◌, cond, ℕ, suc, Bool, true, false, Option, None, Some, List, [], ◌∷◌, length, get_or, take, refl, sym, ◌∙◌, ap, subst, inl, inr, arith, length-append}
+use Rattle.std.proofs.Common.{◌≡◌, ◌<◌, ◌≤◌, ◌+◌, ◌-◌, ◌++◌, cond, ℕ, suc, Bool, true, false, Option, None, Some, List, [], ◌∷◌, length, get_or, take, refl, sym, ◌∙◌, ap, subst, inl, inr, arith, length-append}
 use Rattle.std.proofs.Math.ListN.{get_or-append}
 use Rattle.std.proofs.Math.Seq.{get_or-append_right}
-use Rattle.std.proofs.lemmas.Bool.{cases_eq, cases_lt, false≢true, or_cases, or_left, or_right}
+use Rattle.std.proofs.lemmas.Bool.{cases_eq, cases_lt, false≢true}
 use Rattle.std.proofs.lemmas.List.{get_or_past, get_or_push, get_or-take, length-take}
-use Rattle.std.proofs.lemmas.List.Folds.{list_any_at}
 use Rattle.std.proofs.lemmas.List.Sums.{count_by_more_no, count_by_more_yes, sum_by-cons}
-use Rattle.std.proofs.lemmas.Option.{none-some}
-use Rattle.std.specs.List.{count_by, list_any}
-use Rattle.place_marks.specs.Graph.{Graph, IsGraph, IsOwner, IsReached, IsStep}
+use Rattle.std.specs.List.{count_by}
+use Rattle.crgc_ids.specs.Members.{IsAmong}
+use Rattle.place_marks.specs.Graph.{AreTo, Graph, IsGraph, IsReached, IsStep}
 use Rattle.place_marks.specs.Marks.{IsOrdered}
-use Rattle.place_marks.specs.Rounds.{AddsMarks, AreReached, IsRound, is_marked_owner}
+use Rattle.place_marks.specs.Rounds.{AddsMarks, AreReached, HasMarkedOwner, IsMarkedNext, IsRound, is_marked_owner}
+use Rattle.place_marks.proofs.NumberLemmas.{among-all, among-at, among-more}
 use Rattle.place_marks.proofs.ReachLemmas.{reached-closed, reached-on, reached-start}
 
 -- a marked place is one of those in the row
@@ -22,31 +22,27 @@ marked-inside marks p marked = elim (cases_lt p (length marks)) [
 
 -- ---- the owners of a place
 
--- where a test passes some element, it passes one at a place
-any-place : {X : Type 0} (test : X → Bool) (xs : List X) (d : X) → list_any test xs ≡ true → (i : ℕ) × (test (get_or xs i d) ≡ true)
-any-place test [] d any = absurd (false≢true any)
-any-place test (x ∷ xs) d any = elim (or_cases (test x) (list_any test xs) any) [
-  | inl here ↦ (0, here)
-  | inr there ↦ (let at = any-place test xs d there in (suc at.0, at.1))
+-- none of those that a loop over the numbers of edges went over leads from a marked place
+abbrev pub AreUnmarked : Graph → List Bool → List ℕ → Type 0
+AreUnmarked g marks numbers = (n : ℕ) → IsAmong n numbers → is_marked_owner marks (g.step n) ≡ false
+
+pub unmarked-on : (g : Graph) (marks : List Bool) (numbers : List ℕ) (i : ℕ) (s : Option (ℕ × ℕ)) → i < length numbers → s ≡ g.step (get_or numbers i 0) → is_marked_owner marks s ≡ false → AreUnmarked g marks (take i numbers) → AreUnmarked g marks (take (i + 1) numbers)
+unmarked-on g marks numbers i s inside read free before n h = elim (among-more numbers i n inside h) [
+  | inl earlier ↦ before n earlier
+  | inr same ↦ ap (is_marked_owner marks) (ap g.step same ∙ sym read) ∙ free
 ]
 
--- an owner that is marked is a place
-owner-marked : (marks : List Bool) (o : Option ℕ) → is_marked_owner marks o ≡ true → (b : ℕ) × (o ≡ Some b) × (get_or marks b false ≡ true)
-owner-marked marks None marked = absurd (false≢true marked)
-owner-marked marks (Some b) marked = (b, refl, marked)
+-- one of the numbers leads from a marked place
+pub owner-found : (g : Graph) (marks : List Bool) (numbers : List ℕ) (p i : ℕ) (s : Option (ℕ × ℕ)) → AreTo g p numbers → i < length numbers → s ≡ g.step (get_or numbers i 0) → is_marked_owner marks s ≡ true → HasMarkedOwner g marks p
+owner-found g marks numbers p i None to inside read marked = absurd (false≢true marked)
+owner-found g marks numbers p i (Some (b, a)) to inside read marked =
+    let same = to.alone (get_or numbers i 0) b a (among-at numbers i 0 inside) (sym read) in
+    (b, (get_or numbers i 0, sym read ∙ ap (λ (q : ℕ). Some (b, q)) same), marked)
 
--- what an edge from a marked place does to a row
-pub owner-there : (g : Graph) (marks : List Bool) (a b : ℕ) → IsOwner g a b → get_or marks b false ≡ true → list_any (is_marked_owner marks) (g.owners a) ≡ true
-owner-there g marks a b (i, at) marked = elim (cases_lt i (length (g.owners a))) [
-  | inl inside ↦ list_any_at (is_marked_owner marks) (g.owners a) i None inside (ap (is_marked_owner marks) at ∙ marked)
-  | inr past ↦ absurd (none-some b (sym (get_or_past (g.owners a) i None past) ∙ at))
-]
-
-pub owner-found : (g : Graph) (marks : List Bool) (a : ℕ) → list_any (is_marked_owner marks) (g.owners a) ≡ true → (b : ℕ) × IsOwner g a b × (get_or marks b false ≡ true)
-owner-found g marks a any =
-    let at = any-place (is_marked_owner marks) (g.owners a) None any in
-    let owner = owner-marked marks (get_or (g.owners a) at.0 None) at.1 in
-    (owner.0, (at.0, owner.1), owner.2)
+-- where none does, no edge to the place does
+pub owner-none : (g : Graph) (marks : List Bool) (numbers : List ℕ) (p i : ℕ) → AreTo g p numbers → length numbers ≤ i → AreUnmarked g marks (take i numbers) → HasMarkedOwner g marks p → ⊥
+owner-none g marks numbers p i to all free (b, (n, step), marked) =
+    false≢true (sym (free n (among-all numbers i n all (to.all n b step))) ∙ ap (is_marked_owner marks) step ∙ marked)
 
 -- ---- a round
 
@@ -59,13 +55,11 @@ module _ (g : Graph) (old new : List Bool) (places : length old ≡ g.places) (r
   pub round-reached : IsGraph g → AreAllReached g old → AreAllReached g new
   round-reached whole reached p marked =
       let inside : p < g.places = (let less = marked-inside new p marked in let room = round.room in omega arith) in
-      elim (or_cases (get_or old p false) (g.is_start p || list_any (is_marked_owner old) (g.owners p)) (sym (round.marks p inside) ∙ marked)) [
+      elim ((round.marks p inside).0 marked) [
         | inl before ↦ reached p before
-        | inr now ↦ elim (or_cases (g.is_start p) (list_any (is_marked_owner old) (g.owners p)) now) [
+        | inr now ↦ elim now [
           | inl start ↦ reached-start g p inside start
-          | inr any ↦ (let owner = owner-found g old p any in
-              let from = whole.owner p owner.0 inside owner.1 in
-              reached-on g owner.0 p (reached owner.0 owner.2) ((whole.paired owner.0 p from inside).1 owner.1))
+          | inr owner ↦ reached-on g owner.0 p (reached owner.0 owner.2) owner.1
         ]
       ]
 
@@ -73,28 +67,20 @@ module _ (g : Graph) (old new : List Bool) (places : length old ≡ g.places) (r
   pub round-keeps : (p : ℕ) → get_or old p false ≡ true → get_or new p false ≡ true
   round-keeps p marked =
       let inside : p < g.places = (let less = marked-inside old p marked in omega arith) in
-      round.marks p inside ∙ or_left (get_or old p false) (g.is_start p || list_any (is_marked_owner old) (g.owners p)) marked
+      (round.marks p inside).1 (inl marked)
 
   -- where it adds none, marked is exactly what is reached
   pub round-last : IsGraph g → new ≡ old → AreAllReached g old → AreReached g old
   round-last whole same reached p = (reached p, reached-closed g (λ a. get_or old a false ≡ true) starts on p)
     where
-      back : (a : ℕ) → get_or new a false ≡ true → get_or old a false ≡ true
-      back a = subst (λ marks. get_or marks a false ≡ true) same
+      back : (a : ℕ) → a < g.places → IsMarkedNext g old a → get_or old a false ≡ true
+      back a inside next = subst (λ marks. get_or marks a false ≡ true) same ((round.marks a inside).1 next)
 
       starts : (a : ℕ) → a < g.places → g.is_start a ≡ true → get_or old a false ≡ true
-      starts a inside start = back a (round.marks a inside
-          ∙ or_right (get_or old a false) (g.is_start a || list_any (is_marked_owner old) (g.owners a))
-          (or_left (g.is_start a) (list_any (is_marked_owner old) (g.owners a)) start))
+      starts a inside start = back a inside (inr (inl start))
 
       on : (b a : ℕ) → get_or old b false ≡ true → IsStep g b a → get_or old a false ≡ true
-      on b a marked step =
-          let from : b < g.places = (let less = marked-inside old b marked in omega arith) in
-          let to = whole.target b a from step in
-          let owner = (whole.paired b a from to).0 step in
-          back a (round.marks a to
-          ∙ or_right (get_or old a false) (g.is_start a || list_any (is_marked_owner old) (g.owners a))
-          (or_right (g.is_start a) (list_any (is_marked_owner old) (g.owners a)) (owner-there g old a b owner marked)))
+      on b a marked step = back a (whole b a step).1 (inr (inr (b, step, marked)))
 
 -- so it is in a longer row, where the rest is not marked
 pub reached-longer : (g : Graph) (row rest : List Bool) → ((p : ℕ) → get_or rest p false ≡ false) → AreReached g row → AreReached g (row ++ rest)

@@ -1,27 +1,31 @@
 -- Graphs over places, and what is reached in them.
-use Rattle.std.specs.Prelude.{ℕ, ◌≡◌, ◌<◌, ◌↔◌, Bool, true, List, [], ◌∷◌, Option, None, Some, slice_index_or}
+use Rattle.std.specs.Prelude.{ℕ, ◌≡◌, ◌<◌, Bool, true, List, [], ◌∷◌, Option, Some}
+use Rattle.crgc_ids.specs.Members.{IsAmong}
 
--- The places are the numbers below a count. Each is a start or none, and has its edges in order: for each edge that leads from
--- it the target, for each that leads to it the owner, and None in place of them where the edge is not positive.
+-- The places are the numbers below a count, and each is a start or none. Edges have numbers: of each that is positive, the places
+-- of its owner and of its target are told, and of any other number None.
 pub record Graph : Type 0 where
   pub places : ℕ
   pub is_start : ℕ → Bool
-  pub targets : ℕ → List (Option ℕ)
-  pub owners : ℕ → List (Option ℕ)
+  pub step : ℕ → Option (ℕ × ℕ)
 
 -- a positive edge leads from b to a
 abbrev pub IsStep : Graph → ℕ → ℕ → Type 0
-IsStep g b a = (i : ℕ) × (slice_index_or (g.targets b) i None ≡ Some a)
+IsStep g b a = (n : ℕ) × (g.step n ≡ Some (b, a))
 
--- the same, as it stands among the edges to a
-abbrev pub IsOwner : Graph → ℕ → ℕ → Type 0
-IsOwner g a b = (i : ℕ) × (slice_index_or (g.owners a) i None ≡ Some b)
+-- positive edges lead between places
+abbrev pub IsGraph : Graph → Type 0
+IsGraph g = (b a : ℕ) → IsStep g b a → (b < g.places) × (a < g.places)
 
--- positive edges lead between places, and stand in both lists
-pub record IsGraph (g : Graph) : Type 0 where
-  pub target : (b a : ℕ) → b < g.places → IsStep g b a → a < g.places
-  pub owner : (a b : ℕ) → a < g.places → IsOwner g a b → b < g.places
-  pub paired : (b a : ℕ) → b < g.places → a < g.places → IsStep g b a ↔ IsOwner g a b
+-- each positive edge from b has one of these numbers, and those of them that are positive lead from b
+pub record AreFrom (g : Graph) (b : ℕ) (numbers : List ℕ) : Type 0 where
+  pub all : (n a : ℕ) → g.step n ≡ Some (b, a) → IsAmong n numbers
+  pub alone : (n c a : ℕ) → IsAmong n numbers → g.step n ≡ Some (c, a) → c ≡ b
+
+-- each positive edge to a has one of these numbers, and those of them that are positive lead to a
+pub record AreTo (g : Graph) (a : ℕ) (numbers : List ℕ) : Type 0 where
+  pub all : (n b : ℕ) → g.step n ≡ Some (b, a) → IsAmong n numbers
+  pub alone : (n b c : ℕ) → IsAmong n numbers → g.step n ≡ Some (b, c) → c ≡ a
 
 -- from r over the places of the list, each with a positive edge to the next, the last to a
 abbrev pub IsChain : Graph → ℕ → List ℕ → ℕ → Type 0

@@ -1,21 +1,25 @@
 -- Marks after one round more, each decided from those before it.
-use Rattle.std.specs.Prelude.{ℕ, ◌≡◌, ◌<◌, ◌↔◌, ◌||◌, Bool, true, false, List, Option, None, Some, count_by, length, slice_index_or}
-use Rattle.std.specs.List.{list_any}
-use Rattle.place_marks.specs.Graph.{Graph, IsReached}
+use Rattle.std.specs.Prelude.{ℕ, ◌≡◌, ◌⊎◌, ◌<◌, ◌↔◌, Bool, true, false, List, Option, None, Some, count_by, length, slice_index_or}
+use Rattle.std.specs.Bool.{Decides}
+use Rattle.place_marks.specs.Graph.{Graph, IsReached, IsStep}
 
 -- whether the edge leads from a marked place; one that is not positive does not
-abbrev pub is_marked_owner : List Bool → Option ℕ → Bool
+abbrev pub is_marked_owner : List Bool → Option (ℕ × ℕ) → Bool
 is_marked_owner marks None = false
-is_marked_owner marks (Some b) = slice_index_or marks b false
+is_marked_owner marks (Some (b, a)) = slice_index_or marks b false
 
--- whether the place is marked after one round more: it was, it is a start, or a positive edge leads to it from a marked place
-abbrev pub is_marked_next : Graph → List Bool → ℕ → Bool
-is_marked_next g marks p = slice_index_or marks p false || (g.is_start p || list_any (is_marked_owner marks) (g.owners p))
+-- a positive edge leads to the place from a marked one
+abbrev pub HasMarkedOwner : Graph → List Bool → ℕ → Type 0
+HasMarkedOwner g marks p = (b : ℕ) × IsStep g b p × (slice_index_or marks b false ≡ true)
+
+-- the place is marked after one round more: it was, it is a start, or a positive edge leads to it from a marked place
+abbrev pub IsMarkedNext : Graph → List Bool → ℕ → Type 0
+IsMarkedNext g marks p = (slice_index_or marks p false ≡ true) ⊎ ((g.is_start p ≡ true) ⊎ HasMarkedOwner g marks p)
 
 -- the marks of the new row are those of one round after the old one
 pub record IsRound (g : Graph) (old new : List Bool) : Type 0 where
   pub room : length new ≡ length old
-  pub marks : (p : ℕ) → p < g.places → slice_index_or new p false ≡ is_marked_next g old p
+  pub marks : (p : ℕ) → p < g.places → Decides (slice_index_or new p false) (IsMarkedNext g old p)
 
 -- marked is exactly what is reached
 abbrev pub AreReached : Graph → List Bool → Type 0

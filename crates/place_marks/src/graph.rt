@@ -1,11 +1,11 @@
 //! What marks ask of a graph.
-ghost use Rattle.std.specs.Prelude.{◌≡◌, ◌<◌, length, slice_index_or, None};
-ghost use Rattle.place_marks.specs.Graph.{Graph, IsGraph};
+ghost use Rattle.std.specs.Prelude.{◌≡◌, ◌<◌};
+ghost use Rattle.place_marks.specs.Graph.{AreFrom, AreTo, Graph, IsGraph};
 
-/// A graph whose places are the numbers below their count. Some places are starts. Each place has a list of the edges that
-/// lead from it, and of those that lead to it; marks go along positive edges alone.
+/// A graph whose places are the numbers below their count. Some places are starts. Edges have numbers, and lead from a place to
+/// a place; marks go along positive edges alone.
 pub trait PlaceGraph {
-    // the starts, and the edges of each place
+    // the starts, and where each positive edge leads
     ghost graph: { Self → Graph };
 
     /// How many places there are.
@@ -18,25 +18,17 @@ pub trait PlaceGraph {
         requires { place < (graph self.now).places }
         ensures { result ≡ (graph self.now).is_start place };
 
-    /// How many edges lead from the place.
-    fn count_from(&self, place: u32) -> usize
+    /// The places of the owner and of the target of the edge with this number; None where it is not positive, or no edge.
+    fn step(&self, number: u32) -> Option<(u32, u32)>
+        ensures { result ≡ (graph self.now).step number };
+
+    /// The numbers of the positive edges from the place; there may be others of its edges among them.
+    fn edges_from(&self, place: u32) -> &[u32]
         requires { place < (graph self.now).places }
-        ensures { result ≡ length ((graph self.now).targets place) };
+        ensures { AreFrom (graph self.now) place result.now };
 
-    /// The place that the edge leads to, of those from the place; None where it is not positive.
-    fn target(&self, place: u32, index: usize) -> Option<u32>
-        requires place { place < (graph self.now).places }
-        requires index { index < length ((graph self.now).targets place) }
-        ensures { result ≡ slice_index_or ((graph self.now).targets place) index None };
-
-    /// How many edges lead to the place.
-    fn count_to(&self, place: u32) -> usize
+    /// The numbers of the positive edges to the place; there may be others of its edges among them.
+    fn edges_to(&self, place: u32) -> &[u32]
         requires { place < (graph self.now).places }
-        ensures { result ≡ length ((graph self.now).owners place) };
-
-    /// The place that the edge leads from, of those to the place; None where it is not positive.
-    fn owner(&self, place: u32, index: usize) -> Option<u32>
-        requires place { place < (graph self.now).places }
-        requires index { index < length ((graph self.now).owners place) }
-        ensures { result ≡ slice_index_or ((graph self.now).owners place) index None };
+        ensures { AreTo (graph self.now) place result.now };
 }

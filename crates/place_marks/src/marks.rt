@@ -197,8 +197,9 @@ fn mark_targets<G: PlaceGraph>(graph: &G, marks: &mut Marks, place: u32)
     requires place { place < (G.graph graph.now).places }
     ensures { MarksTargets (G.graph graph.now) marks.old marks.new place }
 {
-    for index in 0..graph.count_from(place) {
-        if let Some(target) = graph.target(place, index) {
+    let numbers = graph.edges_from(place);
+    for number in numbers {
+        if let Some((_, target)) = graph.step(*number) {
             marks.put(target);
         }
     }

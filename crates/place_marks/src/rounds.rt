@@ -1,9 +1,9 @@
 //! Marking in rounds, where each part of the places is decided from the marks of the round before.
 ghost use Rattle.std.specs.Prelude.{◌≡◌, ◌+◌, ◌<◌, ◌≤◌, ℕ, true, false, [], length, slice_index_or, vec_capacity};
-ghost use Rattle.std.specs.List.{list_any};
+ghost use Rattle.std.specs.Bool.{Decides};
 ghost use Rattle.place_marks.specs.Graph.{IsGraph};
 ghost use Rattle.place_marks.specs.Marks.{IsOrdered};
-ghost use Rattle.place_marks.specs.Rounds.{AddsMarks, AreReached, IsRound, is_marked_next, is_marked_owner};
+ghost use Rattle.place_marks.specs.Rounds.{AddsMarks, AreReached, HasMarkedOwner, IsMarkedNext, IsRound, is_marked_owner};
 
 use crate::graph::PlaceGraph;
 use std::thread;
@@ -70,7 +70,7 @@ fn decide_chunks<R: Threads + Sync, G: PlaceGraph + Sync>(
     let part = |start: usize, chunk: &mut [bool]|
         requires { (start + length chunk.now ≤ (G.graph graph.now).places) × (length before.now ≡ (G.graph graph.now).places) }
         ensures { (k : ℕ) → k < length chunk.entry.now
-            → slice_index_or chunk.exit.now k false ≡ is_marked_next (G.graph graph.entry.now) before.entry.now (start + k) }
+            → Decides (slice_index_or chunk.exit.now k false) (IsMarkedNext (G.graph graph.entry.now) before.entry.now (start + k)) }
     { decide_chunk(graph, before, start, chunk) };
     thread::for_each_chunk_mut(rt, marks, size, &part);
 }
@@ -80,7 +80,7 @@ fn decide_chunk<G: PlaceGraph>(graph: &G, before: &[bool], start: usize, chunk: 
     requires places { start + length chunk.old ≤ (G.graph graph.now).places }
     requires before { length before.now ≡ (G.graph graph.now).places }
     ensures marks { (k : ℕ) → k < length chunk.old
-        → slice_index_or chunk.new k false ≡ is_marked_next (G.graph graph.now) before.now (start + k) }
+        → Decides (slice_index_or chunk.new k false) (IsMarkedNext (G.graph graph.now) before.now (start + k)) }
 {
     let _places = graph.place_count();
     for k in 0..chunk.len() {
@@ -92,7 +92,7 @@ fn decide_chunk<G: PlaceGraph>(graph: &G, before: &[bool], start: usize, chunk: 
 fn is_marked_next<G: PlaceGraph>(graph: &G, before: &[bool], place: u32) -> bool
     requires place { place < (G.graph graph.now).places }
     requires before { length before.now ≡ (G.graph graph.now).places }
-    ensures { result ≡ is_marked_next (G.graph graph.now) before.now place }
+    ensures { Decides result (IsMarkedNext (G.graph graph.now) before.now place) }
 {
     before[place as usize] || graph.is_start(place) || has_marked_owner(graph, before, place)
 }
@@ -101,10 +101,11 @@ fn is_marked_next<G: PlaceGraph>(graph: &G, before: &[bool], place: u32) -> bool
 fn has_marked_owner<G: PlaceGraph>(graph: &G, marks: &[bool], place: u32) -> bool
     requires place { place < (G.graph graph.now).places }
     requires marks { length marks.now ≡ (G.graph graph.now).places }
-    ensures { result ≡ list_any (is_marked_owner marks.now) ((G.graph graph.now).owners place) }
+    ensures { Decides result (HasMarkedOwner (G.graph graph.now) marks.now place) }
 {
-    for index in 0..graph.count_to(place) {
-        if is_marked_owner(marks, graph.owner(place, index)) {
+    let numbers = graph.edges_to(place);
+    for number in numbers {
+        if is_marked_owner(marks, graph.step(*number)) {
             return true;
         }
     }
@@ -112,11 +113,11 @@ fn has_marked_owner<G: PlaceGraph>(graph: &G, marks: &[bool], place: u32) -> boo
 }
 
 /// Whether the edge leads from a marked place.
-fn is_marked_owner(marks: &[bool], owner: Option<u32>) -> bool
-    ensures { result ≡ is_marked_owner marks.now owner }
+fn is_marked_owner(marks: &[bool], step: Option<(u32, u32)>) -> bool
+    ensures { result ≡ is_marked_owner marks.now step }
 {
-    match owner {
-        Some(owner) => is_marked(marks, owner),
+    match step {
+        Some((owner, _)) => is_marked(marks, owner),
         None => false,
     }
 }

@@ -1,5 +1,5 @@
 //! A graph of three places, in which marks go as far as positive edges lead.
-ghost use Rattle.std.specs.Prelude.{◌==◌, cond, true, false, None, Some, [], ◌∷◌};
+ghost use Rattle.std.specs.Prelude.{◌==◌, cond, false, None, Some};
 
 use crate::{Marks, PlaceGraph, mark, mark_rounds};
 use std::alloc::Global;
@@ -15,8 +15,7 @@ impl PlaceGraph for Row {
     ghost graph = { λ r. record {
       places = 3;
       is_start = λ p. cond (p == 0) r.starts false;
-      targets = λ p. cond (p == 0) (Some 1 ∷ []) (cond (p == 1) (None ∷ []) []);
-      owners = λ p. cond (p == 1) (Some 0 ∷ []) (cond (p == 2) (None ∷ []) []);
+      step = λ n. cond (n == 0) (Some (0, 1)) None;
     } };
 
     fn place_count(&self) -> u32 {
@@ -27,20 +26,24 @@ impl PlaceGraph for Row {
         place == 0 && self.starts
     }
 
-    fn count_from(&self, place: u32) -> usize {
-        if place < 2 { 1 } else { 0 }
+    fn step(&self, number: u32) -> Option<(u32, u32)> {
+        if number == 0 { Some((0, 1)) } else { None }
     }
 
-    fn target(&self, place: u32, _index: usize) -> Option<u32> {
-        if place == 0 { Some(1) } else { None }
+    fn edges_from(&self, place: u32) -> &[u32] {
+        match place {
+            0 => &[0],
+            1 => &[1],
+            _ => &[],
+        }
     }
 
-    fn count_to(&self, place: u32) -> usize {
-        if place == 0 { 0 } else { 1 }
-    }
-
-    fn owner(&self, place: u32, _index: usize) -> Option<u32> {
-        if place == 1 { Some(0) } else { None }
+    fn edges_to(&self, place: u32) -> &[u32] {
+        match place {
+            1 => &[0],
+            2 => &[1],
+            _ => &[],
+        }
     }
 }
 

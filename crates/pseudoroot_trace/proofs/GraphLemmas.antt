@@ -1,15 +1,14 @@
 -- A shadow graph as a graph of places.
-use Rattle.std.proofs.Common.{◌≡◌, ◌<◌, ◌↔◌, ◌&&◌, ◌⊎◌, not, ℕ, zero, suc, Bool, true, false, List, [], ◌∷◌, Some, None, length, get_or, map, nat_lt, refl, sym, ◌∙◌, ap, inl, inr}
-use Rattle.std.proofs.lemmas.Bool.{false≢true}
+use Rattle.std.proofs.Common.{◌≡◌, ◌<◌, ◌↔◌, ◌&&◌, ◌⊎◌, not, ℕ, Bool, true, false, cond, List, Some, None, length, nat_lt, refl, sym, ◌∙◌, ap, subst, inl, inr}
+use Rattle.std.proofs.lemmas.Bool.{false≢true, lt-ltb, ltb-true}
 use Rattle.crgc_ids.specs.Actor.{Actor}
-use Rattle.edge_table.specs.Table.{no_edge}
+use Rattle.edge_table.specs.Table.{ArePositive, edge_at, is_positive, no_edge}
 use Rattle.edge_table.specs.declared.table.Edge.{Edge}
-use Rattle.crgc_ids.specs.Members.{IsAmong}
-use Rattle.place_marks.specs.Graph.{IsGraph, IsOwner, IsStep}
+use Rattle.place_marks.specs.Graph.{AreFrom, AreTo, IsGraph, IsStep}
 use Rattle.shadow_graph.specs.Graph.{Graph}
 use Rattle.shadow_graph.specs.Pairs.{edge_between, has_pair}
-use Rattle.shadow_graph.specs.Places.{ArePlaced, actor_of, owners_of, targets_of}
-use Rattle.pseudoroot_trace.specs.Trace.{if_leads, is_out, leads, place_graph}
+use Rattle.shadow_graph.specs.Places.{ArePlaced, actor_of}
+use Rattle.pseudoroot_trace.specs.Trace.{goes_along, is_out, leads, place_graph, step_of}
 
 pub is-or-not : (a : Bool) → (a ≡ true) ⊎ (a ≡ false)
 is-or-not true = inl refl
@@ -32,67 +31,96 @@ pub leads-parts : (out : Bool) (e : Edge) → (not out && nat_lt e.released e.gi
 leads-parts true e t = absurd (false≢true t)
 leads-parts false e t = (refl, t)
 
--- ---- a place that is found among those that a test lets through
+-- ---- the edge with a number
 
-found-leads : (v : Bool) (k a : ℕ) → if_leads v k ≡ Some a → (v ≡ true) × (k ≡ a)
-found-leads true k a e = (refl, cc)
-found-leads false k a e = absurd (cc)
+-- marks go along it, from this place to that one
+pub record IsAlong (g : Graph) (n b a : ℕ) : Type 0 where
+  pub inside : n < length g.edges.edges
+  pub owner : (edge_at g.edges n).owner ≡ b
+  pub target : (edge_at g.edges n).target ≡ a
+  pub on : leads g (actor_of g b) (actor_of g a) ≡ true
 
-none-there : (a : ℕ) → None ≡ Some a → ⊥
-none-there a e = cc
+abbrev ends_of : Edge → ℕ × ℕ
+ends_of e = (e.owner, e.target)
 
-pub passed : (test : ℕ → Bool) (ks : List ℕ) (a i : ℕ) → get_or (map (λ k. if_leads (test k) k) ks) i None ≡ Some a → IsAmong a ks × (test a ≡ true)
-passed test [] a i e = absurd (none-there a e)
-passed test (k ∷ ks) a zero e =
-    let found = found-leads (test k) k a e in
-    (inl (sym found.1), ap test (sym found.1) ∙ found.0)
-passed test (k ∷ ks) a (suc i) e =
-    let later = passed test ks a i e in
-    (inr later.0, later.1)
+ends-there : (v : Bool) (ends : ℕ × ℕ) (b a : ℕ) → cond v (Some ends) None ≡ Some (b, a) → (v ≡ true) × (ends ≡ (b, a))
+ends-there true ends b a e = (refl, cc)
+ends-there false ends b a e = absurd (cc)
 
-pub passes : (test : ℕ → Bool) (ks : List ℕ) (a : ℕ) → IsAmong a ks → test a ≡ true → (i : ℕ) × (get_or (map (λ k. if_leads (test k) k) ks) i None ≡ Some a)
-passes test [] a h t = absurd h
-passes test (k ∷ ks) a h t = elim h [
-  | inl e ↦ (0, ap (λ x. if_leads (test x) x) (sym e) ∙ ap (λ v. if_leads v a) t)
-  | inr more ↦ (let later = passes test ks a more t in (suc later.0, later.1))
-]
+both-true : (v w : Bool) → (v && w) ≡ true → (v ≡ true) × (w ≡ true)
+both-true true w e = (refl, e)
+both-true false w e = absurd (false≢true e)
+
+pub along : (g : Graph) (n b a : ℕ) → step_of g n ≡ Some (b, a) → IsAlong g n b a
+along g n b a step =
+    let e = edge_at g.edges n in
+    let found = ends-there (goes_along g n) (ends_of e) b a step in
+    let owner : e.owner ≡ b = ap (λ (x : ℕ × ℕ). x.0) found.1 in
+    let target : e.target ≡ a = ap (λ (x : ℕ × ℕ). x.1) found.1 in
+    let goes = both-true (nat_lt n (length g.edges.edges)) (leads g (actor_of g e.owner) (actor_of g e.target)) found.0 in
+    record {
+      inside = ltb-true n (length g.edges.edges) goes.0;
+      owner = owner;
+      target = target;
+      on = (λ i. leads g (actor_of g (sym owner i)) (actor_of g (sym target i))) ∙ goes.1;
+    }
+
+pub along-step : (g : Graph) (n b a : ℕ) → IsAlong g n b a → step_of g n ≡ Some (b, a)
+along-step g n b a goes =
+    let e = edge_at g.edges n in
+    let on : leads g (actor_of g e.owner) (actor_of g e.target) ≡ true = (λ i. leads g (actor_of g (goes.owner i)) (actor_of g (goes.target i))) ∙ goes.on in
+    let ends : ends_of e ≡ (b, a) = λ i. (goes.owner i, goes.target i) in
+    ap (λ v. cond (v && leads g (actor_of g e.owner) (actor_of g e.target)) (Some (ends_of e)) None) (lt-ltb n (length g.edges.edges) goes.inside)
+    ∙ ap (λ v. cond v (Some (ends_of e)) None) on
+    ∙ ap Some ends
+
+-- it is positive
+along-positive : (g : Graph) → ArePlaced g → (n b a : ℕ) → IsAlong g n b a → is_positive (edge_at g.edges n) ≡ true
+along-positive g placed n b a goes =
+    let between : edge_between g.edges (actor_of g b) (actor_of g a) ≡ edge_at g.edges n =
+    (λ i. edge_between g.edges (actor_of g (sym goes.owner i)) (actor_of g (sym goes.target i))) ∙ (placed.numbered n goes.inside).2 in
+    ap is_positive (sym between) ∙ (leads-parts (is_out g (actor_of g a)) (edge_between g.edges (actor_of g b) (actor_of g a)) goes.on).1
 
 -- ---- steps
 
-pub step-from : (g : Graph) (b a : ℕ) → IsStep (place_graph g) b a → IsAmong a (targets_of g b) × (leads g (actor_of g b) (actor_of g a) ≡ true)
-step-from g b a step = passed (λ k. leads g (actor_of g b) (actor_of g k)) (targets_of g b) a step.0 step.1
+pub step-from : (g : Graph) → ArePlaced g → (b a : ℕ) → IsStep (place_graph g) b a
+    → (b < length g.shadows.names) × (a < length g.shadows.names) × (leads g (actor_of g b) (actor_of g a) ≡ true)
+step-from g placed b a step =
+    let goes = along g step.0 b a step.1 in
+    let ends = placed.numbered step.0 goes.inside in (
+      subst (λ p. p < length g.shadows.names) goes.owner ends.0,
+      subst (λ p. p < length g.shadows.names) goes.target ends.1,
+      goes.on,
+    )
 
-pub step-to : (g : Graph) (b a : ℕ) → IsAmong a (targets_of g b) → leads g (actor_of g b) (actor_of g a) ≡ true → IsStep (place_graph g) b a
-step-to g b a there t = passes (λ k. leads g (actor_of g b) (actor_of g k)) (targets_of g b) a there t
-
-owner-from : (g : Graph) (a b : ℕ) → IsOwner (place_graph g) a b → IsAmong b (owners_of g a) × (leads g (actor_of g b) (actor_of g a) ≡ true)
-owner-from g a b step = passed (λ p. leads g (actor_of g p) (actor_of g a)) (owners_of g a) b step.0 step.1
-
-owner-to : (g : Graph) (a b : ℕ) → IsAmong b (owners_of g a) → leads g (actor_of g b) (actor_of g a) ≡ true → IsOwner (place_graph g) a b
-owner-to g a b there t = passes (λ p. leads g (actor_of g p) (actor_of g a)) (owners_of g a) b there t
+pub step-to : (g : Graph) → ArePlaced g → (b a : ℕ) → b < length g.shadows.names → a < length g.shadows.names
+    → leads g (actor_of g b) (actor_of g a) ≡ true → IsStep (place_graph g) b a
+step-to g placed b a in_b in_a on =
+    let positive = (leads-parts (is_out g (actor_of g a)) (edge_between g.edges (actor_of g b) (actor_of g a)) on).1 in
+    let found = placed.number b a in_b in_a (positive-there g placed (actor_of g b) (actor_of g a) positive) in
+    (found.0, along-step g found.0 b a (record { inside = found.1; owner = found.2; target = found.3; on = on }))
 
 -- it is a graph of places
 pub graph-whole : (g : Graph) → ArePlaced g → IsGraph (place_graph g)
-graph-whole g placed = record {
-  target = λ b a inside step. ((placed.targets b a).0 (step-from g b a step).0).1;
-  owner = λ a b inside step. ((placed.owners b a).0 (owner-from g a b step).0).0;
-  paired = λ b a in_b in_a. (
-    (λ step. (let found = step-from g b a step in
-        owner-to g a b ((placed.owners b a).1 ((placed.targets b a).0 found.0)) found.1)),
-    (λ step. (let found = owner-from g a b step in
-        step-to g b a ((placed.targets b a).1 ((placed.owners b a).0 found.0)) found.1)),
-  );
-}
+graph-whole g placed = λ b a step. (let found = step-from g placed b a step in (found.0, found.1))
 
 -- ---- the code's tests
 
 pub leads-step : (g : Graph) → ArePlaced g → (p k : ℕ) → p < length g.shadows.names → k < length g.shadows.names → (r : Bool) → r ≡ leads g (actor_of g p) (actor_of g k) → (r ≡ true) ↔ IsStep (place_graph g) p k
 leads-step g placed p k in_p in_k r is = (
-  (λ t. (
-      let on = sym is ∙ t in
-      let positive = (leads-parts (is_out g (actor_of g k)) (edge_between g.edges (actor_of g p) (actor_of g k)) on).1 in
-      let there = positive-there g placed (actor_of g p) (actor_of g k) positive in
-      step-to g p k ((placed.targets p k).1 (in_p, in_k, there)) on
-      )),
-  (λ step. is ∙ (step-from g p k step).1),
+  (λ t. step-to g placed p k in_p in_k (sym is ∙ t)),
+  (λ step. is ∙ (step-from g placed p k step).2),
 )
+
+-- the positive edges at a place are those that marks may go along
+pub are-from : (g : Graph) → ArePlaced g → (b : ℕ) (numbers : List ℕ) → ArePositive (λ e. e.owner) g.edges.edges b numbers → AreFrom (place_graph g) b numbers
+are-from g placed b numbers are = record {
+  all = λ n a step. (let goes = along g n b a step in are.all n goes.inside goes.owner (along-positive g placed n b a goes));
+  alone = λ n c a among step. sym (along g n c a step).owner ∙ (are.alone n among).1;
+}
+
+pub are-to : (g : Graph) → ArePlaced g → (a : ℕ) (numbers : List ℕ) → ArePositive (λ e. e.target) g.edges.edges a numbers → AreTo (place_graph g) a numbers
+are-to g placed a numbers are = record {
+  all = λ n b step. (let goes = along g n b a step in are.all n goes.inside goes.target (along-positive g placed n b a goes));
+  alone = λ n b c among step. sym (along g n b c step).target ∙ (are.alone n among).1;
+}

@@ -19,8 +19,8 @@ use Rattle.place_marks.proofs.ReachLemmas.{reached-closed, reached-on, reached-s
 use Rattle.place_marks.specs.Graph.{IsReached}
 use Rattle.shadow_graph.proofs.GraphLemmas.{lost-same}
 use Rattle.shadow_graph.specs.Graph.{Graph, lost_in}
-use Rattle.shadow_graph.specs.Pairs.{edge_between, has_pair}
-use Rattle.shadow_graph.specs.Places.{ArePlaced, actor_of, targets_of}
+use Rattle.shadow_graph.specs.Pairs.{edge_between}
+use Rattle.shadow_graph.specs.Places.{ArePlaced, actor_of}
 use Rattle.shadow_graph.specs.Seen.{is_dropped, is_known}
 use Rattle.shadow_graph.specs.Stands.{IsGraphOf}
 use Rattle.shadow_table.specs.Shadows.{flag_pair, is_named, place_in}
@@ -98,11 +98,9 @@ module _ (cl : Cluster) (f : Fold) (g : Graph) (placed : ArePlaced g) (stands : 
       let both = placed.named r b there in
       let p = place_in g.shadows.names r in
       let k = place_in g.shadows.names b in
-      let pair : has_pair g.edges.pairs (actor_of g p) (actor_of g k) ≡ true = (λ i. has_pair g.edges.pairs (at-place r both.0 i) (at-place b both.1 i)) ∙ there in
-      let listed : IsAmong k (targets_of g p) = (placed.targets p k).1 ((placed.place r both.0).0, (placed.place b both.1).0, pair) in
       let outside : not (is_out g b) ≡ true = true-not (is_out g b) (out-same b ∙ head-in b bs a chain.2 inside) in
       let on : leads g r b ≡ true = and-true (not (is_out g b)) _ outside (edge-same r b ∙ chain.1) in
-      let step = step-to g p k listed ((λ i. leads g (at-place r both.0 i) (at-place b both.1 i)) ∙ on) in
+      let step = step-to g placed p k (placed.place r both.0).0 (placed.place b both.1).0 ((λ i. leads g (at-place r both.0 i) (at-place b both.1 i)) ∙ on) in
       along b bs a named inside (reached-on (place_graph g) p k reached step) chain.2
 
   pub marked-reached : (a : Actor) → IsMarked cl (is_lost cl f) (is_dropped g) f a → IsReachedIn g a
@@ -147,7 +145,7 @@ module _ (cl : Cluster) (f : Fold) (g : Graph) (placed : ArePlaced g) (stands : 
   pub reached-marked : (a : Actor) → IsReachedIn g a → IsMarked cl (is_lost cl f) (is_dropped g) f a
   reached-marked a reached =
       let p = place_in g.shadows.names a in
-      let there : IsFound (actor_of g p) = reached-closed (place_graph g) (λ q. IsFound (actor_of g q)) (λ q _ start. found-start q start) (λ q k found step. found-on q k (step-from g q k step).1 found) p reached.1 in
+      let there : IsFound (actor_of g p) = reached-closed (place_graph g) (λ q. IsFound (actor_of g q)) (λ q _ start. found-start q start) (λ q k found step. found-on q k (step-from g placed q k step).2 found) p reached.1 in
       let found : IsFound a = subst IsFound (at-place a reached.0) there in
       (named-known a reached.0, found.0, found.1)
 

@@ -1,12 +1,13 @@
 -- A shadow graph as a graph of places, in which marks go from pseudoroots along positive edges.
-use Rattle.std.specs.Prelude.{◌==◌, ◌+◌, ◌&&◌, ◌||◌, not, if◌then◌else◌, ℕ, Bool, true, Option, None, Some, length, map, nat_lt}
+use Rattle.std.specs.Prelude.{◌==◌, ◌+◌, ◌&&◌, ◌||◌, not, if◌then◌else◌, ℕ, Bool, true, Option, None, Some, length, nat_lt}
 use Rattle.crgc_ids.specs.Actor.{Actor}
 use Rattle.crgc_ids.specs.Nodes.{has_node}
+use Rattle.edge_table.specs.Table.{edge_at}
 use Rattle.place_marks.specs.Graph as places
 use Rattle.shadow_table.specs.Shadows.{shadow_at}
 use Rattle.shadow_graph.specs.Graph.{Graph, lost_in}
 use Rattle.shadow_graph.specs.Pairs.{edge_between}
-use Rattle.shadow_graph.specs.Places.{actor_of, owners_of, targets_of}
+use Rattle.shadow_graph.specs.Places.{actor_of}
 use Rattle.shadow_graph.specs.Seen.{is_dropped}
 
 -- whether a sweep leaves the actor out: it was dropped, or its node is lost
@@ -30,15 +31,18 @@ is_start g a = not (is_out g a) && is_pseudoroot g a
 abbrev pub leads : Graph → Actor → Actor → Bool
 leads g b a = let e = edge_between g.edges b a in not (is_out g a) && nat_lt e.released e.given
 
--- the place that marks come to from another
-abbrev pub if_leads : Bool → ℕ → Option ℕ
-if_leads v place = if v then Some place else None
+-- whether there is an edge with this number, and marks go along it
+abbrev pub goes_along : Graph → ℕ → Bool
+goes_along g n = let e = edge_at g.edges n in nat_lt n (length g.edges.edges) && leads g (actor_of g e.owner) (actor_of g e.target)
+
+-- the places of the owner and of the target of the edge with this number, where marks go along it
+abbrev pub step_of : Graph → ℕ → Option (ℕ × ℕ)
+step_of g n = let e = edge_at g.edges n in if goes_along g n then Some (e.owner, e.target) else None
 
 -- the graph of places
 abbrev pub place_graph : Graph → places.Graph
 place_graph g = record {
   places = length g.shadows.names;
   is_start = λ p. is_start g (actor_of g p);
-  targets = λ p. map (λ k. if_leads (leads g (actor_of g p) (actor_of g k)) k) (targets_of g p);
-  owners = λ k. map (λ p. if_leads (leads g (actor_of g p) (actor_of g k)) p) (owners_of g k);
+  step = step_of g;
 }

@@ -48,32 +48,23 @@ impl<'a> PlaceGraph for Trace<'a> {
         !is_out && is_pseudoroot(shadow)
     }
 
-    fn count_from(&self, place: u32) -> usize {
-        self.graph.edge_count(place) as usize
-    }
-
-    fn target(&self, place: u32, index: usize) -> Option<u32> {
-        let _count = self.graph.edge_count(place);
-        let (target, value) = self.graph.edge_at(place, index as u32);
+    fn step(&self, number: u32) -> Option<(u32, u32)> {
+        let (owner, target, value) = self.graph.edge_numbered(number)?;
         if leads(self.graph, target, value) {
-            Some(target)
+            Some((owner, target))
         } else {
             None
         }
     }
 
-    fn count_to(&self, place: u32) -> usize {
-        self.graph.owner_count(place) as usize
+    fn edges_from(&self, place: u32) -> &[u32] {
+        let _places = self.graph.place_count();
+        self.graph.positive_from(place)
     }
 
-    fn owner(&self, place: u32, index: usize) -> Option<u32> {
-        let _count = self.graph.owner_count(place);
-        let (owner, value) = self.graph.owner_at(place, index as u32);
-        if leads(self.graph, place, value) {
-            Some(owner)
-        } else {
-            None
-        }
+    fn edges_to(&self, place: u32) -> &[u32] {
+        let _places = self.graph.place_count();
+        self.graph.positive_to(place)
     }
 }
 

@@ -269,6 +269,8 @@ placed g room keyed long = record {
       let b = (listed target_of refl g.edges.edges k m).0 l in
       one-edge g.shadows.names (record g.edges { places = room }) keyed n m a.0 b.0 same (a.1 ∙ sym b.1)
       ));
+  numbered = λ n inside. (let is = (numbered g.shadows.names (record g.edges { places = room }) keyed n inside).edge in (is.owner, is.target, is.between));
+  number = λ p k in_p in_k there. edge-at g.shadows.names (record g.edges { places = room }) keyed p k in_p in_k there;
 }
   where
     ends : (p k n : ℕ) → n < length g.edges.edges → (edge_at g.edges n).owner ≡ p → (edge_at g.edges n).target ≡ k

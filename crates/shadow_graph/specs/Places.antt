@@ -22,7 +22,8 @@ abbrev pub owners_of : Graph → ℕ → List ℕ
 owners_of g place = map (λ number. (edge_at g.edges number).owner) (edges_to g.edges.edges place)
 
 -- each place is that of one actor; each pair that a row named is listed once at the place of its owner and once at that of its
--- target, and nothing else is; of another pair nothing is kept, and of another actor nothing is told
+-- target, and nothing else is; of another pair nothing is kept, and of another actor nothing is told; each number of an edge is
+-- that of the pair at its ends, and each pair that a row named has one
 pub record ArePlaced (g : Graph) : Type 0 where
   pub actor : (p : ℕ) → p < length g.shadows.names
       → (is_named g.shadows.names (actor_of g p) ≡ true) × (place_in g.shadows.names (actor_of g p) ≡ p)
@@ -38,3 +39,8 @@ pub record ArePlaced (g : Graph) : Type 0 where
       × (has_pair g.edges.pairs (actor_of g p) (actor_of g k) ≡ true))
   pub targets_once : (p : ℕ) → IsDistinct nat_eq (targets_of g p)
   pub owners_once : (k : ℕ) → IsDistinct nat_eq (owners_of g k)
+  pub numbered : (n : ℕ) → n < length g.edges.edges → (let e = edge_at g.edges n in (e.owner < length g.shadows.names)
+      × (e.target < length g.shadows.names) × (edge_between g.edges (actor_of g e.owner) (actor_of g e.target) ≡ e))
+  pub number : (p k : ℕ) → p < length g.shadows.names → k < length g.shadows.names
+      → has_pair g.edges.pairs (actor_of g p) (actor_of g k) ≡ true
+      → (n : ℕ) × (n < length g.edges.edges) × ((edge_at g.edges n).owner ≡ p) × ((edge_at g.edges n).target ≡ k)

@@ -1,6 +1,6 @@
 //! The edges of a shadow graph by the places of its actors.
-ghost use Rattle.std.specs.Prelude.{◌≡◌, ◌<◌, ◌≤◌, ◌-ℤ◌, if◌then◌else◌, pos, length, slice_index};
-ghost use Rattle.edge_table.specs.Table.{edge_at, no_edge};
+ghost use Rattle.std.specs.Prelude.{◌≡◌, ◌<◌, ◌≤◌, ◌-ℤ◌, if◌then◌else◌, IfNone, IfSome, pos, length, slice_index};
+ghost use Rattle.edge_table.specs.Table.{ArePositive, edge_at, no_edge};
 ghost use Rattle.shadow_table.specs.Shadows.{shadow_at};
 ghost use Rattle.shadow_rows.specs.Pairs.{edge_between};
 ghost use Rattle.shadow_graph.specs.Places.{actor_of, owners_of, targets_of};
@@ -67,6 +67,44 @@ impl ShadowGraph {
         let number = self.edges.edges_to(place)[index as usize];
         let edge = self.numbered(number);
         (edge.owner, self.value(edge.target, edge))
+    }
+
+    /// The numbers of the positive edges from the actor at the place, along which more references were given than released, whether
+    /// the target was dropped or not; there may be others of its edges among them, as `EdgeTable::positive_from` says. Constant time,
+    /// or logarithmic time where more than 128 edges lead from it.
+    pub fn positive_from(&self, place: u32) -> &[u32]
+        requires { place < length self.now.shadows.names }
+        ensures { ArePositive (λ e. e.owner) self.now.edges.edges place result.now }
+    {
+        self.edges.positive_from(place)
+    }
+
+    /// The numbers of the positive edges to the actor at the place, whether it was dropped or not, as `positive_from` says it of
+    /// those from it.
+    pub fn positive_to(&self, place: u32) -> &[u32]
+        requires { place < length self.now.shadows.names }
+        ensures { ArePositive (λ e. e.target) self.now.edges.edges place result.now }
+    {
+        self.edges.positive_to(place)
+    }
+
+    /// The places of the owner and of the target of the edge with this number, and the value of `edge` for both; None exactly where
+    /// there is no such edge. Constant time.
+    pub fn edge_numbered(&self, number: u32) -> Option<(u32, u32, i64)>
+        ensures there { IfSome result (λ r. number < length self.now.edges.edges) }
+        ensures owner { IfSome result (λ r. r.0 ≡ (edge_at self.now.edges number).owner) }
+        ensures target { IfSome result (λ r. r.1 ≡ (edge_at self.now.edges number).target) }
+        ensures owner_within { IfSome result (λ r. r.0 < length self.now.shadows.names) }
+        ensures target_within { IfSome result (λ r. r.1 < length self.now.shadows.names) }
+        ensures value { IfSome result (λ r. let e = seen_edge self.now (actor_of self.now r.0) (actor_of self.now r.1) in
+            r.2 ≡ pos e.given -ℤ pos e.released) }
+        ensures none { IfNone result (length self.now.edges.edges ≤ number) }
+    {
+        if number >= self.edges.edge_count() {
+            return None;
+        }
+        let edge = self.numbered(number);
+        Some((edge.owner, edge.target, self.value(edge.target, edge)))
     }
 
     /// What is kept of the edge with this number, which is what is kept of the actors at its ends.

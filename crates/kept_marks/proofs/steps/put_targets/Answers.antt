@@ -5,21 +5,20 @@ use Rattle.kept_marks.proofs.steps.put_targets.Goals as goal
 pub put_target-requires : goal.put_target-requires
 put_target-requires g c =
     let room = c.requires.set in
-    let same = c.loop-index.invariant.room in
+    let same = c.loop-number.invariant.room in
     record {
-      within = target-within (g.G.PlaceGraph.graph c.args.graph.now) c.args.place c.loop-index.index _ c.target.result c.requires.whole c.requires.place c.requires.room c.target.ensures;
+      within = target-within (g.G.PlaceGraph.graph c.args.graph.now) _ _ c.step.result c.requires.whole c.requires.room c.step.ensures;
       set = omega arith;
     }
 
-pub loop-index-init : goal.loop-index-init
-loop-index-init g c = put-none (g.G.PlaceGraph.graph c.args.graph.now) c.args.supports.now c.args.set.now c.args.place c.args.on
+pub loop-number-init : goal.loop-number-init
+loop-number-init g c = put-none (g.G.PlaceGraph.graph c.args.graph.now) c.args.supports.now c.args.set.now c.args.place c.args.on
 
-pub loop-index-preserved : goal.loop-index-preserved
-loop-index-preserved g c =
-    put-on (g.G.PlaceGraph.graph c.args.graph.now) c.args.supports.now c.args.set.now c.loop-index.set c.put_target.new.set c.args.place c.args.on c.target.result c.loop-index.index c.loop-index.invariant c.target.ensures c.put_target.ensures
+pub loop-number-preserved : goal.loop-number-preserved
+loop-number-preserved g c =
+    put-on (g.G.PlaceGraph.graph c.args.graph.now) c.args.supports.now c.args.set.now c.loop-number.set c.put_target.new.set c.args.place c.args.on c.step.result c.edges_from-numbers.result.now c.loop-number.number-index c.edges_from-numbers.ensures c.loop-number-test.true c.loop-number.invariant c.step.ensures c.put_target.ensures
 
 pub returns : goal.returns
 returns g c =
-    let all = c.loop-index-test.false in
-    let count = c.count_from-index-end.ensures in
-    put-all (g.G.PlaceGraph.graph c.args.graph.now) c.args.supports.now c.args.set.now c.loop-index.set c.args.place c.args.on c.loop-index.index c.loop-index.invariant (omega arith)
+    let all = c.loop-number-test.false in
+    put-all (g.G.PlaceGraph.graph c.args.graph.now) c.args.supports.now c.args.set.now c.loop-number.set c.args.place c.args.on c.edges_from-numbers.result.now c.loop-number.number-index c.edges_from-numbers.ensures (omega arith) c.loop-number.invariant

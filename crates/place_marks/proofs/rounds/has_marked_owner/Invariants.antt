@@ -1,8 +1,6 @@
-use Rattle.std.proofs.Common.{◌≡◌, false, take}
-use Rattle.std.specs.List.{list_any}
-use Rattle.place_marks.specs.Rounds.{is_marked_owner}
+use Rattle.std.proofs.Common.{take}
+use Rattle.place_marks.proofs.RoundLemmas.{AreUnmarked}
 use Rattle.place_marks.proofs.rounds.has_marked_owner.Given as goal
 
-abbrev pub invariant-loop-index : goal.invariant-loop-index
-invariant-loop-index g l =
-    list_any (is_marked_owner l.marks) (take l.index ((g.G.PlaceGraph.graph l.graph).owners l.place)) ≡ false
+abbrev pub invariant-loop-number : goal.invariant-loop-number
+invariant-loop-number g l = AreUnmarked (g.G.PlaceGraph.graph l.graph) l.marks (take l.number-index l.numbers)

@@ -65,7 +65,7 @@ returns-clause-number c =
     let from = (goal.at.returns-clause-number c).After-from-from in
     let to = (goal.at.returns-clause-number c).After-to-to in
     let edges = c.as_slice-edges.result.now in
-    let found = subst (λ (es : List Edge). AreFound c.self.inside.pairs es) (sym c.as_slice-edges.ensures.value) c.self.invariant.1 in
+    let found = subst (λ (es : List Edge). AreFound c.self.inside.pairs es) (sym c.as_slice-edges.ensures.value) c.self.invariant.1.0 in
     rw (← c.self.view_is) (map_is_right _ c.number_mapped.result c.number_mapped.ensures.number (λ n there.
     let is = (between from n).0 there in
     elim (found (c.args.owner, c.args.target) n there) [

@@ -1,7 +1,11 @@
-use Rattle.std.proofs.Common.{◌<◌, length, subst, sym}
-use Rattle.edge_table.specs.Table.{Edges}
+use Rattle.std.proofs.Common.{◌<◌, ◌++◌, ℕ, List, [], ◌∷◌, length, map, refl, subst, sym}
+use Rattle.edge_table.specs.Ends.{numbers_of}
+use Rattle.edge_table.specs.Partition.{AreParted, Parted}
+use Rattle.edge_table.specs.Table.{Edges, is_positive_at}
+use Rattle.edge_table.specs.declared.table.Edge.{Edge}
 use Rattle.edge_table.proofs.FoundLemmas.{found-removed}
-use Rattle.edge_table.proofs.TableLemmas.{one_less, table-edge_removed}
+use Rattle.edge_table.proofs.PositiveLemmas.{parted-forgotten}
+use Rattle.edge_table.proofs.TableLemmas.{one_less, owner_of, table-edge_removed, target_of}
 use Rattle.edge_table.proofs.table.EdgeTable.remove_last_edge.Goals as goal
 
 pub invariant_of-self : goal.invariant_of-self
@@ -10,5 +14,15 @@ invariant_of-self c =
     let fewer = one_less c.self.inside.pairs.pairs c.pop.new.self.pairs c.self.inside.edges.items c.self.inside.places.items c.self.invariant.0 some c.pop.ensures.pairs in
     let table = table-edge_removed c.self.inside.pairs.pairs c.pop.new.self.pairs c.pop-2.new.self.items c.self.inside.edges.items c.self.inside.places.items c.in-Some.edge c.pop_from.new.self c.index_mut.result.now c.pop_to.new.self c.index_mut-in-Some.result.now c.self.invariant.0 c.in-Some.ensures.items c.pop.ensures.distinct fewer c.index_mut.ensures.value c.pop_from.ensures.from c.pop_from.ensures.to c.index_mut-in-Some.ensures.value c.pop_to.ensures.to c.pop_to.ensures.from in (
       table,
-      found-removed c.self.inside.pairs c.pop.new.self c.pop-2.new.self.items c.self.inside.edges.items c.in-Some.edge _ c.pop.ensures.pairs c.in-Some.ensures.items (sym table.long) c.self.invariant.1 c.pop.ensures.kept,
+      (
+        found-removed c.self.inside.pairs c.pop.new.self c.pop-2.new.self.items c.self.inside.edges.items c.in-Some.edge _ c.pop.ensures.pairs c.in-Some.ensures.items (sym table.long) c.self.invariant.1.0 c.pop.ensures.kept,
+        record {
+          from = parted-forgotten owner_of refl c.pop-2.new.self.items c.in-Some.edge c.self.inside.by_owner c.forget.new.self (was owner_of c.self.inside.by_owner c.self.invariant.1.1.from) c.forget.ensures.none c.forget.ensures.others;
+          to = parted-forgotten target_of refl c.pop-2.new.self.items c.in-Some.edge c.self.inside.by_target c.forget-in-Some.new.self (was target_of c.self.inside.by_target c.self.invariant.1.1.to) c.forget-in-Some.ensures.none c.forget-in-Some.ensures.others;
+        },
+      ),
     )
+  where
+    was : (end : Edge → ℕ) (kept : List (ℕ × Parted)) → AreParted (λ p. numbers_of p 0 (map end c.self.inside.edges.items)) (is_positive_at c.self.inside.edges.items) kept
+        → AreParted (λ p. numbers_of p 0 (map end (c.pop-2.new.self.items ++ c.in-Some.edge ∷ []))) (is_positive_at (c.pop-2.new.self.items ++ c.in-Some.edge ∷ [])) kept
+    was end kept = subst (λ (es : List Edge). AreParted (λ p. numbers_of p 0 (map end es)) (is_positive_at es) kept) c.in-Some.ensures.items
