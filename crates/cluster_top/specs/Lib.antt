@@ -7,3 +7,4 @@ pub mod WorkersOutcome
 pub mod GenOutcome
 pub mod Refusals
 pub mod Outcome
+pub mod Complete

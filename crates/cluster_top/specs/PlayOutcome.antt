@@ -1,10 +1,6 @@
 -- What `play` comes to: the status, and the text that is then to be written.
 use Rattle.std.specs.Prelude.{ℕ, ◌≡◌, ◌⊎◌, Bool, List, Option, Ok, Err}
 use Rattle.cluster_course.specs.Collected.{IsRightlyCollected}
-use Rattle.command_words.specs.Commands.{Spells}
-use Rattle.command_words.specs.declared.command.Command.TheVariants.{Play}
-use Rattle.crgc_io.specs.Fault.{CountRose}
-use Rattle.crgc_io.specs.Taken.{Takes}
 use Rattle.history_model.specs.Legal.{IsLegal}
 use Rattle.history_model.specs.Story.{Story}
 use Rattle.journal_model.specs.Journals.{journal_of, limit}
@@ -41,12 +37,3 @@ PlayCameTo left given ended faults old new brief NoMemory text = GaveSome left g
 PlayCameTo left given ended faults old new brief (Script fault) text = ⊥
 PlayCameTo left given ended faults old new brief Usage text = ⊥
 PlayCameTo left given ended faults old new brief (WriteFault written) text = ⊥
-
--- completeness: where the words ask for a journal's report, the source gave a journal that tells a history, and no read and no write
--- failed, the call ends well, unless memory runs out
-abbrev pub PlaysWhatIsTold : {S K : Type 0} → (left : S → Option (List ℕ)) (given : S → List ℕ) (reads : S → ℕ) (writes : K → ℕ)
-    (words : List (List ℕ)) (source source' : S) (sink sink' : K) → Status → Type 0
-PlaysWhatIsTold left given reads writes words source source' sink sink' status =
-    (brief : Bool) (journal : List ℕ) (told : Story) → Spells words (Play brief) → Takes left given source source' journal
-    → journal_of journal ≡ Ok told → ¬ CountRose (reads source) (reads source') → ¬ CountRose (writes sink) (writes sink')
-    → (status ≡ Done) ⊎ (status ≡ NoMemory)

@@ -3,7 +3,7 @@ ghost use Rattle.std.specs.Prelude.{◌≡◌, ◌≤◌, IfOk, IfErr, MatchOpti
 ghost use Rattle.command_words.specs.Commands.{Spells, WantsWorkers};
 ghost use Rattle.command_words.specs.declared.command.Command.TheVariants.{Run};
 ghost use Rattle.cluster_top.specs.Outcome.{CameTo, IsOutcome, IsWritten};
-ghost use Rattle.cluster_top.specs.PlayOutcome.{PlaysWhatIsTold};
+ghost use Rattle.cluster_top.specs.Complete.{EndsWell};
 ghost use Rattle.cluster_top.specs.Refusals.{line_for, status_of};
 ghost use Rattle.cluster_top.specs.WorkersOutcome.{IsTopOutcome, IsWorkersOutcome};
 
@@ -35,7 +35,7 @@ pub fn crgc_top<S: Source, K: Sink, G: Gate + Sync, R: Threads + Wait + Clock + 
 ) -> Status
     ensures outcome { IsTopOutcome S.left S.given S.ended S.faults K.held K.taken K.faults (map string_bytes words.now)
         source.old source.new sink.old sink.new kept.old kept.new result }
-    ensures complete { PlaysWhatIsTold S.left S.given S.faults K.faults (map string_bytes words.now)
+    ensures complete { EndsWell S.left S.given S.faults K.faults (map string_bytes words.now)
         source.old source.new sink.old sink.new result }
     ensures reads_never_fall { S.faults source.old ≤ S.faults source.new }
     ensures writes_never_fall { K.faults sink.old ≤ K.faults sink.new }
@@ -76,7 +76,7 @@ pub fn plain_top<S: Source, K: Sink>(
     requires { ¬ WantsWorkers (map string_bytes words.now) }
     ensures outcome { IsOutcome S.left S.given S.ended S.faults K.held K.taken K.faults (map string_bytes words.now)
         source.old source.new sink.old sink.new result }
-    ensures complete { PlaysWhatIsTold S.left S.given S.faults K.faults (map string_bytes words.now)
+    ensures complete { EndsWell S.left S.given S.faults K.faults (map string_bytes words.now)
         source.old source.new sink.old sink.new result }
     ensures reads_never_fall { S.faults source.old ≤ S.faults source.new }
     ensures writes_never_fall { K.faults sink.old ≤ K.faults sink.new }

@@ -3,7 +3,7 @@
 
 ghost use Rattle.std.specs.Prelude.{◌≡◌, [], None, Option, map, string_bytes};
 ghost use Rattle.history_model.specs.Story.{Story};
-ghost use Rattle.cluster_top.specs.PlayOutcome.{PlaysWhatIsTold};
+ghost use Rattle.cluster_top.specs.Complete.{EndsWell};
 ghost use Rattle.cluster_top.specs.WorkersOutcome.{IsTopOutcome};
 ghost use Rattle.crgc_io.specs.Edges.{sink_faults, sink_inner, sink_taken, source_ended, source_faults, source_given, source_inner};
 
@@ -43,7 +43,7 @@ fn run<I: Read, O: Write, R: Threads + Wait + Clock + Sync>(
     ensures outcome { (kept : Option Story) × IsTopOutcome (λ s. I.remaining (source_inner s)) source_given source_ended source_faults
         (λ k. O.contents (sink_inner k)) sink_taken sink_faults (map string_bytes words.now)
         source.old source.new sink.old sink.new None kept result }
-    ensures complete { PlaysWhatIsTold (λ s. I.remaining (source_inner s)) source_given source_faults sink_faults (map string_bytes words.now)
+    ensures complete { EndsWell (λ s. I.remaining (source_inner s)) source_given source_faults sink_faults (map string_bytes words.now)
         source.old source.new sink.old sink.new result }
 {
     let mut kept = None;

@@ -1,6 +1,6 @@
 use Rattle.std.proofs.Common.{map, string_bytes}
-use Rattle.cluster_top.specs.Outcome.{CameTo, IsOutcome, IsWritten}
-use Rattle.cluster_top.proofs.Completeness.{plays-on}
+use Rattle.cluster_top.specs.Outcome.{CameTo, IsWritten}
+use Rattle.cluster_top.proofs.Completeness.{ends-well}
 use Rattle.cluster_top.proofs.Tasks.{ended}
 use Rattle.cluster_top.proofs.top.plain_top.Goals as goal
 
@@ -14,5 +14,5 @@ returns-clause-outcome g c =
 
 pub returns-clause-complete : goal.returns-clause-complete
 returns-clause-complete g c =
-    plays-on g.S.Source.left g.S.Source.given g.S.Source.ended g.S.Source.faults g.K.Sink.held g.K.Sink.taken g.K.Sink.faults (map string_bytes c.args.words.now)
+    ends-well g.S.Source.left g.S.Source.given g.S.Source.ended g.S.Source.faults g.K.Sink.held g.K.Sink.taken g.K.Sink.faults (map string_bytes c.args.words.now)
     c.args.source.now c.answer-answer.new.source c.args.sink.now c.write_answer.new.sink c.write_answer.result (returns-clause-outcome g c)
