@@ -1,1 +1,5 @@
-pub mod ReadyLemmas
+pub mod FlagLemmas
+pub mod LevelLemmas
+pub mod MemberLemmas
+pub mod NextLemmas
+pub mod WordLemmas

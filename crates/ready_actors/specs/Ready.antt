@@ -2,6 +2,7 @@
 use Rattle.std.specs.Prelude.{◌≡◌, ◌⊎◌, ◌==◌, ◌&&◌, not, ℕ, Bool, true, List, Option, Some, None, ⊤}
 use Rattle.std.specs.List.{list_any}
 use Rattle.crgc_ids.specs.Actor.{Actor, IsActorBelow, same_actor}
+use Rattle.ready_actors.specs.Flags.{IsFirstOf, IsNoneOf}
 
 -- whether the actor is one of them
 abbrev pub has_actor : List Actor → Actor → Bool
@@ -15,6 +16,15 @@ IsAbove (Some b) a = IsActorBelow b a
 -- the second actor is the first one, or above it
 abbrev pub IsFrom : Actor → Actor → Type 0
 IsFrom b a = (b ≡ a) ⊎ IsActorBelow b a
+
+-- it is the first of them on the node, from this serial on
+pub record IsFirstOnFrom (actors : List Actor) (node from : ℕ) (first : Actor) : Type 0 where
+  pub on_node : first.node ≡ node
+  pub first_of : IsFirstOf (λ k. has_actor actors (record { node = node; serial = k })) from first.serial
+
+-- none of them is on the node, from this serial on
+abbrev pub IsNoneOnFrom : List Actor → ℕ → ℕ → Type 0
+IsNoneOnFrom actors node from = IsNoneOf (λ k. has_actor actors (record { node = node; serial = k })) from
 
 -- it is the lowest of them of which this is true
 pub record IsLowestOf (actors : List Actor) (P : Actor → Type 0) (first : Actor) : Type 0 where

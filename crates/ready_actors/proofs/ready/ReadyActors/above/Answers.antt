@@ -1,27 +1,18 @@
-use Rattle.std.proofs.Common.{◌≡◌, false, sym, ◌∙◌}
-use Rattle.std.proofs.lemmas.Bool.{both_ways}
-use Rattle.std.specs.Ordering.{is_gt}
+use Rattle.std.proofs.Common.{◌≤◌, ◌+◌, Option, Some, None, IfNone, arith}
 use Rattle.crgc_ids.specs.Actor.{Actor}
-use Rattle.ready_actors.specs.Ready.{has_actor}
-use Rattle.ready_actors.proofs.ReadyLemmas.{below-from_less, first-of, from-from_not_greater, has-tie, less-from_below, order_of}
+use Rattle.ready_actors.specs.Ready.{IsAbove, IsOfNone}
+use Rattle.ready_actors.proofs.NextLemmas.{none-above}
 use Rattle.ready_actors.proofs.ready.ReadyActors.above.Goals as goal
 
-pub returns-in-Some-clause-some : goal.returns-in-Some-clause-some
-returns-in-Some-clause-some c =
-    let actors = c.self.inside.actors.keys in
-    let lies = c.range.ensures.in_range tt in
-    let first : Actor = c.in-Some.actor.now in
-    let here = first-of _ c.range.result c.next.new.self first c.in-Some.ensures.steps lies.1 in
-    rw (← c.self.view_is)
-    (record {
-      there = sym (has-tie actors first) ∙ here.1;
-      one = below-from_less c.args.after first here.0.0;
-      lowest = λ a has within. from-from_not_greater first a
-          (first-of (λ k. is_gt (order_of k a) ≡ false) c.range.result c.next.new.self first c.in-Some.ensures.steps (lies.2 a (less-from_below c.args.after a within, tt) (has-tie actors a ∙ has)));
-    })
+if_none : (o : Option Actor) (P Q : Type 0) → (P → Q) → IfNone o P → IfNone o Q
+if_none None P Q weaker holds = weaker holds
+if_none (Some a) P Q weaker holds = tt
 
 pub returns-in-None-clause-none : goal.returns-in-None-clause-none
 returns-in-None-clause-none c =
-    let actors = c.self.inside.actors.keys in
-    let lies = c.range.ensures.in_range tt in
-    rw (← c.self.view_is) (λ a has within. both_ways (has_actor actors a) (sym (has-tie actors a) ∙ lies.5 c.in-None.ensures.steps.0 a (less-from_below c.args.after a within, tt)) has)
+    let actors = c.args.self.now in
+    let after = c.args.after in
+    if_none c.first_from.result (IsOfNone actors (λ a. c.get.result + 1 ≤ a.node)) (IsOfNone actors (IsAbove (Some after)))
+    (λ beyond. none-above actors after c.node.result (c.serial.result + 1) (c.get.result + 1) c.node.ensures (let same = c.serial.ensures.number in omega arith) (let number = c.get.ensures.number in let same = c.node-in-None.ensures in omega arith)
+    c.in-None.ensures.none beyond)
+    c.first_from.ensures.none
