@@ -81,8 +81,8 @@ fn edges_are_listed_by_place(rt: HostRuntime) -> Result<(), Fail> {
     assert_eq!(rt; number(&table, 2, 1)?, Some(1));
     assert_eq!(rt; number(&table, 1, 2)?, None);
     if table.place_count() == 3 {
-        assert_eq!(rt; table.edges_from(0), [0, 2].as_slice());
-        assert_eq!(rt; table.edges_to(1), [0, 1].as_slice());
+        assert_eq!(rt; table.edges_from(0), [(1, 0), (0, 2)].as_slice());
+        assert_eq!(rt; table.edges_to(1), [(0, 0), (2, 1)].as_slice());
         assert_eq!(rt; table.edges_to(2), [].as_slice());
     }
     Ok(())
@@ -142,7 +142,7 @@ fn release_one(table: &mut EdgeTable, number: u32) {
     }
 }
 
-/// How many numbers of positive edges are told of those from the place, and of those to it.
+/// How many positive edges are told of those from the place, and of those to it.
 fn positive(table: &EdgeTable, place: u32) -> Result<(usize, usize), Fail> {
     if place >= table.place_count() {
         return Err(Fail::from("no such place"));
@@ -164,5 +164,9 @@ fn many_edges_that_are_not_positive_are_kept_apart(rt: HostRuntime) -> Result<()
         release_one(&mut table, number);
     }
     assert_eq!(rt; positive(&table, 0)?, (1, 1));
+    if table.place_count() == 200 {
+        assert_eq!(rt; table.positive_from(0), [(199, 199)].as_slice());
+        assert_eq!(rt; table.positive_to(199), [(0, 199)].as_slice());
+    }
     Ok(())
 }

@@ -10,12 +10,13 @@ use Rattle.std.specs.Option.{IfNone, IfSome}
 use Rattle.crgc_ids.specs.Actor.{Actor}
 use Rattle.crgc_ids.specs.Members.{IsAmong}
 use Rattle.edge_table.proofs.IndexLemmas.{position-more, position-pushed}
-use Rattle.edge_table.proofs.ListedLemmas.{end_at, listed}
-use Rattle.edge_table.proofs.PlaceLemmas.{longer}
-use Rattle.edge_table.proofs.TableLemmas.{from_of, owner_of, target_of}
+use Rattle.edge_table.proofs.EndsLemmas.{among-first, ends-listed, ends-long, ends_at, numbers-of-ends}
+use Rattle.edge_table.proofs.ListedLemmas.{end_at, listed, longer}
+use Rattle.edge_table.proofs.TableLemmas.{owner_of, target_of}
 use Rattle.edge_table.specs.Ends.{PlaceEnds, no_ends, numbers_of}
 use Rattle.edge_table.specs.Index.{AreFound, Indexed, IsNear, mapped}
-use Rattle.edge_table.specs.Table.{edges_from, edges_to, no_edge, same_pair}
+use Rattle.edge_table.specs.Partition.{numbers_in}
+use Rattle.edge_table.specs.Table.{edges_from, edges_to, ends_from, ends_to, no_edge, same_pair}
 use Rattle.edge_table.specs.declared.near.TheConstants.{NEAR}
 use Rattle.edge_table.specs.declared.table.Edge.{Edge}
 
@@ -63,21 +64,21 @@ module _ (end : Edge → ℕ) (none : end no_edge ≡ 0) where
       let p = end (get_or edges n no_edge) in
       let same = get_or_append_left edges (e ∷ []) no_edge n inside in
       subst (λ x. IsAmong n (take NEAR (numbers_of (end x) 0 (map end (edges ++ e ∷ []))))) (sym same)
-      (subst (λ xs. IsAmong n (take NEAR xs)) (sym (longer from_of end edges e p)) (first-longer n NEAR (numbers_of p 0 (map end edges)) (cond (eqb p (end e)) (length edges ∷ []) []) near))
+      (subst (λ xs. IsAmong n (take NEAR xs)) (sym (longer end edges e p)) (first-longer n NEAR (numbers_of p 0 (map end edges)) (cond (eqb p (end e)) (length edges ∷ []) []) near))
 
   near-shorter : (edges : List Edge) (e : Edge) (n : ℕ) → n < length edges → NearAt (edges ++ e ∷ []) n → NearAt edges n
   near-shorter edges e n inside near =
       let p = end (get_or edges n no_edge) in
       let same = get_or_append_left edges (e ∷ []) no_edge n inside in
       first-shorter n NEAR (length edges) (eqb p (end e)) (numbers_of p 0 (map end edges)) (λ is. absurd (omega arith))
-      (subst (λ xs. IsAmong n (take NEAR xs)) (longer from_of end edges e p) (subst (λ x. IsAmong n (take NEAR (numbers_of (end x) 0 (map end (edges ++ e ∷ []))))) same near))
+      (subst (λ xs. IsAmong n (take NEAR xs)) (longer end edges e p) (subst (λ x. IsAmong n (take NEAR (numbers_of (end x) 0 (map end (edges ++ e ∷ []))))) same near))
 
   -- the last edge, where few before it have its end
   near-last : (edges : List Edge) (e : Edge) → length (numbers_of (end e) 0 (map end edges)) < NEAR → NearAt (edges ++ e ∷ []) (length edges)
   near-last edges e few =
       let n = length edges in
       let same = get_or-append_seam edges e [] no_edge in
-      let is = longer from_of end edges e (end e) ∙ ap (λ b. numbers_of (end e) 0 (map end edges) ++ cond b (n ∷ []) []) (eq-eqb (end e) (end e) refl) in
+      let is = longer end edges e (end e) ∙ ap (λ b. numbers_of (end e) 0 (map end edges) ++ cond b (n ∷ []) []) (eq-eqb (end e) (end e) refl) in
       subst (λ x. IsAmong n (take NEAR (numbers_of (end x) 0 (map end (edges ++ e ∷ []))))) (sym same)
       (subst (λ xs. IsAmong n (take NEAR xs)) (sym is) (first-last n NEAR (numbers_of (end e) 0 (map end edges)) few))
 
@@ -90,13 +91,13 @@ module _ (end : Edge → ℕ) (none : end no_edge ≡ 0) where
 -- ---- each edge is found
 
 -- the last edge is listed near or put into the map
-pub last-found : (edges : List Edge) (e : Edge) (new : Indexed) (p : Actor × Actor) (k : ℕ) (b : Bool) (froms tos : List ℕ) → froms ≡ edges_from edges e.owner → tos ≡ edges_to edges e.target → Decides b ((NEAR ≤ length froms) × (NEAR ≤ length tos)) → (b ≡ true → mapped new p ≡ Some k) → IsNear (edges ++ e ∷ []) (length edges) ⊎ (mapped new p ≡ Some k)
+pub last-found : (edges : List Edge) (e : Edge) (new : Indexed) (p : Actor × Actor) (k : ℕ) (b : Bool) (froms tos : List (ℕ × ℕ)) → froms ≡ ends_from edges e.owner → tos ≡ ends_to edges e.target → Decides b ((NEAR ≤ length froms) × (NEAR ≤ length tos)) → (b ≡ true → mapped new p ≡ Some k) → IsNear (edges ++ e ∷ []) (length edges) ⊎ (mapped new p ≡ Some k)
 last-found edges e new p k true froms tos from to full has = inr (has refl)
 last-found edges e new p k false froms tos from to full has =
     elim (cases_lt (length froms) NEAR) [
-      | inl few ↦ inl (inl (near-last owner_of refl edges e (subst (λ n. n < NEAR) (ap length from) few)))
+      | inl few ↦ inl (inl (near-last owner_of refl edges e (subst (λ n. n < NEAR) (ap length from ∙ ends-long target_of edges (edges_from edges e.owner)) few)))
       | inr many ↦ elim (cases_lt (length tos) NEAR) [
-        | inl few ↦ inl (inr (near-last target_of refl edges e (subst (λ n. n < NEAR) (ap length to) few)))
+        | inl few ↦ inl (inr (near-last target_of refl edges e (subst (λ n. n < NEAR) (ap length to ∙ ends-long owner_of edges (edges_to edges e.target)) few)))
         | inr more ↦ absurd (false≢true (full.1 (many, more)))
       ]
     ]
@@ -150,21 +151,35 @@ found-changed index edges edges' owners targets found = λ q n there.
 -- ---- a look-up
 
 -- the list of a place, as it is read
-pub list-read : (side : PlaceEnds → List ℕ) (lists : ℕ → List ℕ) (places : List PlaceEnds) (place : ℕ) (e : PlaceEnds) (list : List ℕ) → place < length places → e ≡ get_or places place e → list ≡ side e → ((p : ℕ) → side (get_or places p no_ends) ≡ lists p) → list ≡ lists place
+pub list-read : (side : PlaceEnds → List (ℕ × ℕ)) (lists : ℕ → List (ℕ × ℕ)) (places : List PlaceEnds) (place : ℕ) (e : PlaceEnds) (list : List (ℕ × ℕ)) → place < length places → e ≡ get_or places place e → list ≡ side e → ((p : ℕ) → side (get_or places p no_ends) ≡ lists p) → list ≡ lists place
 list-read side lists places place e list inside read is all = is ∙ ap side (read ∙ get_or_default places place e no_ends inside) ∙ all place
 
-module _ (end : Edge → ℕ) (none : end no_edge ≡ 0) (edges : List Edge) (place : ℕ) (list : List ℕ) (is : list ≡ numbers_of place 0 (map end edges)) where
+module _ (end other : Edge → ℕ) (none : end no_edge ≡ 0) (edges : List Edge) (place : ℕ) (list : List (ℕ × ℕ)) (is : list ≡ ends_at end other edges place) where
+  numbers_are : numbers_in list ≡ numbers_of place 0 (map end edges)
+  numbers_are = ap numbers_in is ∙ numbers-of-ends other edges (numbers_of place 0 (map end edges))
+
   -- its numbers are those of edges
-  pub list-within : (n : ℕ) → IsAmong n list → n < length edges
-  list-within n h = ((listed end none edges place n).0 (subst (IsAmong n) is h)).0
+  pub list-within : (n : ℕ) → IsAmong n (numbers_in list) → n < length edges
+  list-within n h = ((listed end none edges place n).0 (subst (IsAmong n) numbers_are h)).0
 
-  -- an edge with that end is one of the first of a list of few
-  pub list-first : (n : ℕ) → n < length edges → end (get_or edges n no_edge) ≡ place → length list ≤ NEAR → IsAmong n (take NEAR list)
-  list-first n inside at few = first-all n NEAR list few (subst (IsAmong n) (sym is) ((listed end none edges place n).1 (inside, at)))
+  -- each of it is an edge between the two places
+  pub list-found : (q n : ℕ) → IsAmong (q, n) list → (n < length edges) × (end (get_or edges n no_edge) ≡ place) × (other (get_or edges n no_edge) ≡ q)
+  list-found q n h = ends-listed end other none edges place q n (subst (IsAmong (q, n)) is h)
 
-  -- so is one that is near
-  pub list-near : (n : ℕ) → end (get_or edges n no_edge) ≡ place → IsAmong n (take NEAR (numbers_of (end (get_or edges n no_edge)) 0 (map end edges))) → IsAmong n (take NEAR list)
-  list-near n at near = subst (λ xs. IsAmong n (take NEAR xs)) (ap (λ p. numbers_of p 0 (map end edges)) at ∙ sym is) near
+  -- an edge that is near at that end is one of the first
+  pub list-near : (q n : ℕ) → end (get_or edges n no_edge) ≡ place → other (get_or edges n no_edge) ≡ q → IsAmong n (take NEAR (numbers_of (end (get_or edges n no_edge)) 0 (map end edges))) → IsAmong (q, n) (take NEAR list)
+  list-near q n at to near =
+      subst (λ x. IsAmong (x, n) (take NEAR list)) to
+      (subst (λ xs. IsAmong (other (get_or edges n no_edge), n) (take NEAR xs)) (sym is)
+      (among-first other edges n NEAR (numbers_of place 0 (map end edges)) (subst (λ p. IsAmong n (take NEAR (numbers_of p 0 (map end edges)))) at near)))
+
+  -- so is one with that end, where the list has few
+  pub list-first : (q n : ℕ) → n < length edges → end (get_or edges n no_edge) ≡ place → other (get_or edges n no_edge) ≡ q → length list ≤ NEAR → IsAmong (q, n) (take NEAR list)
+  list-first q n inside at to few =
+      let long = ap length is ∙ ends-long other edges (numbers_of place 0 (map end edges)) in
+      subst (λ x. IsAmong (x, n) (take NEAR list)) to
+      (subst (λ xs. IsAmong (other (get_or edges n no_edge), n) (take NEAR xs)) (sym is)
+      (among-first other edges n NEAR (numbers_of place 0 (map end edges)) (first-all n NEAR (numbers_of place 0 (map end edges)) (omega arith) ((listed end none edges place n).1 (inside, at)))))
 
 -- where no number is that of a pair, there is none
 pub none_there : (o : Option ℕ) → ((n : ℕ) → o ≡ Some n → ⊥) → o ≡ None
@@ -172,12 +187,17 @@ none_there None never = refl
 none_there (Some n) never = absurd (never n refl)
 
 -- what is found near is right where only what is near can be found
-pub near_is_right : (o m : Option ℕ) (P Q : ℕ → Type 0) → ((n : ℕ) → (o ≡ Some n) ↔ P n) → ((n : ℕ) → P n → Q n) → IfSome m P → IfNone m ((n : ℕ) → Q n → P n → ⊥) → m ≡ o
-near_is_right o None P Q is near found none = sym (none_there o (λ n there. let at = (is n).0 there in none n (near n at) at))
-near_is_right o (Some n) P Q is near found none = sym ((is n).1 found)
+pub near_is_right : (o m : Option ℕ) (P Q R : ℕ → Type 0) → ((n : ℕ) → (o ≡ Some n) ↔ P n) → ((n : ℕ) → P n → Q n) → ((n : ℕ) → R n → P n) → IfSome m R → IfNone m ((n : ℕ) → Q n → ⊥) → m ≡ o
+near_is_right o None P Q R is near right found none = sym (none_there o (λ n there. none n (near n ((is n).0 there))))
+near_is_right o (Some n) P Q R is near right found none = sym ((is n).1 (right n found))
 
 -- what a map has is right where it has each number, and no wrong one
 pub map_is_right : (o m : Option ℕ) → IfSome m (λ n. o ≡ Some n) → ((n : ℕ) → o ≡ Some n → m ≡ Some n) → m ≡ o
 map_is_right None None right has = refl
 map_is_right None (Some n) right has = absurd (none-some n right)
 map_is_right (Some n) m right has = has n refl
+
+-- what holds of a number found
+pub all_some : (o : Option ℕ) (P Q : ℕ → Type 0) → ((n : ℕ) → P n → Q n) → IfSome o P → IfSome o Q
+all_some None P Q more found = tt
+all_some (Some n) P Q more found = more n found

@@ -156,7 +156,7 @@ number-at p pairs n d distinct inside =
 -- ---- numbers of a list
 
 -- what stands in a list is one of it
-pub among-at : (xs : List ℕ) (k d : ℕ) → k < length xs → IsAmong (get_or xs k d) xs
+pub among-at : {A : Type 0} (xs : List A) (k : ℕ) (d : A) → k < length xs → IsAmong (get_or xs k d) xs
 among-at [] k d inside = absurd (omega arith)
 among-at (x ∷ xs) zero d inside = inl refl
 among-at (x ∷ xs) (suc k) d inside = inr (among-at xs k d (omega arith))

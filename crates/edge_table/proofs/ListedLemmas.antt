@@ -1,7 +1,7 @@
 -- Which edges are listed at a place.
-use Rattle.std.proofs.Common.{◌≡◌, ◌+◌, ◌<◌, ◌≤◌, ◌↔◌, ℕ, zero, suc, Bool, true, false, cond, List, [], ◌∷◌, eqb, length, get_or, map, refl, sym, ◌∙◌, ap, subst, inl, inr, arith}
+use Rattle.std.proofs.Common.{◌≡◌, ◌+◌, ◌<◌, ◌≤◌, ◌↔◌, ℕ, zero, suc, Bool, true, false, cond, List, [], ◌∷◌, ◌++◌, eqb, length, get_or, map, refl, sym, ◌∙◌, ap, subst, inl, inr, arith}
 use Rattle.std.proofs.lemmas.Bool.{eq-eqb, eqb-true, ne_eqb}
-use Rattle.std.proofs.lemmas.List.{length-map}
+use Rattle.std.proofs.lemmas.List.{length-map, map_push}
 use Rattle.std.specs.List.{IsDistinct}
 use Rattle.std.specs.Prelude.{nat_eq}
 use Rattle.crgc_ids.proofs.MembersLaws.{all-from_members}
@@ -109,3 +109,24 @@ listed end none edges place number =
           subst (λ n. IsAmong n (numbers_of place 0 (map end edges))) from_zero (numbers-back place 0 number (map end edges) (omega arith) (end_at end none edges number ∙ h.1))
           ),
     )
+
+-- ---- an edge more
+
+-- a place that comes last has the last number
+numbers-push : (p k : ℕ) (xs : List ℕ) (x : ℕ) → numbers_of p k (xs ++ x ∷ []) ≡ numbers_of p k xs ++ cond (eqb p x) ((k + length xs) ∷ []) []
+numbers-push p k [] x =
+    let here : k ≡ k + 0 = omega arith in
+    ap (λ n. cond (eqb p x) (n ∷ []) []) here
+numbers-push p k (y ∷ ys) x =
+    let there : (k + 1) + length ys ≡ k + suc (length ys) = omega arith in
+    let later : numbers_of p (k + 1) (ys ++ x ∷ []) ≡ numbers_of p (k + 1) ys ++ cond (eqb p x) ((k + suc (length ys)) ∷ []) [] = numbers-push p (k + 1) ys x ∙ ap (λ n. numbers_of p (k + 1) ys ++ cond (eqb p x) (n ∷ []) []) there in
+    elim (eqb p y) as (λ b. cond b (k ∷ numbers_of p (k + 1) (ys ++ x ∷ [])) (numbers_of p (k + 1) (ys ++ x ∷ [])) ≡ cond b (k ∷ numbers_of p (k + 1) ys) (numbers_of p (k + 1) ys) ++ cond (eqb p x) ((k + suc (length ys)) ∷ []) []) [
+      | true ↦ ap (λ ns. k ∷ ns) later
+      | false ↦ later
+    ]
+
+-- the lists of a longer list of edges
+pub longer : (end : Edge → ℕ) (edges : List Edge) (e : Edge) (p : ℕ) → numbers_of p 0 (map end (edges ++ e ∷ [])) ≡ numbers_of p 0 (map end edges) ++ cond (eqb p (end e)) (length edges ∷ []) []
+longer end edges e p =
+    let long : 0 + length (map end edges) ≡ length edges = (let l = length-map edges end in omega arith) in
+    ap (numbers_of p 0) (map_push end edges e) ∙ numbers-push p 0 (map end edges) (end e) ∙ ap (λ n. numbers_of p 0 (map end edges) ++ cond (eqb p (end e)) (n ∷ []) []) long

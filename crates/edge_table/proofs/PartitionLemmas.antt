@@ -1,30 +1,36 @@
--- An order in which the numbers that count stand first, and what a call makes of it.
-use Rattle.std.proofs.Common.{◌&&◌, ◌||◌, ◌≡◌, ◌≢◌, ◌⊎◌, ◌<◌, ◌≤◌, ◌+◌, ◌↔◌, ◌++◌, ℕ, suc, Bool, true, false, List, [], ◌∷◌, Option, None, Some, Result, Ok, Err, length, take, refl, sym, ◌∙◌, ap, subst, inl, inr, arith, get_or-set_other, get_or-set_same, length-append}
+-- An order in which the edges that count stand first, and what a call makes of it.
+use Rattle.std.proofs.Common.{◌&&◌, ◌||◌, ◌≡◌, ◌≢◌, ◌⊎◌, ◌<◌, ◌≤◌, ◌+◌, ◌↔◌, ◌++◌, ℕ, zero, suc, Bool, true, false, List, [], ◌∷◌, Option, None, Some, get_or, length, take, refl, sym, ◌∙◌, ap, subst, inl, inr, arith, get_or-set_other, get_or-set_same, length-append}
 use Rattle.std.proofs.Math.ListN.{set, length-set, get_or-append}
 use Rattle.std.proofs.Math.Seq.{get_or-append_seam}
 use Rattle.std.proofs.lemmas.Bool.{cases_eq, cases_lt, eq-eqb, false≢true, ne_eqb, or_left, or_right}
-use Rattle.std.proofs.lemmas.List.{take_all}
-use Rattle.std.proofs.lemmas.List.Folds.{list_any_more}
-use Rattle.std.specs.List.{list_any}
-use Rattle.std.specs.Prelude.{nat_eq}
 use Rattle.std.proofs.lemmas.Bool.Decides.{nat_tests}
-use Rattle.std.proofs.lemmas.List.Sorted.{searched}
+use Rattle.std.proofs.lemmas.List.{length-map, take_all}
+use Rattle.std.proofs.lemmas.List.Folds.{list_any_more}
 use Rattle.std.proofs.lemmas.Option.{none-some}
 use Rattle.std.specs.BTreeMap.{BTreeMap, WritesThrough, is_at}
+use Rattle.std.specs.List.{list_any}
 use Rattle.std.specs.Option.{IsSome}
-use Rattle.std.specs.List.Sorted.{IsBinarySearchResult}
 use Rattle.std.specs.Ordering.{nat_cmp}
-use Rattle.std.specs.Result.{IsOk, MatchResult}
+use Rattle.std.specs.Prelude.{nat_eq}
 use Rattle.crgc_ids.specs.Members.{IsAmong}
-use Rattle.edge_table.specs.Partition.{AreRising, CountsAt, IsExchanged, IsKeptOf, IsParted, Parted, kept_of, nth_of}
+use Rattle.edge_table.specs.Partition.{AreRising, CountsAt, IsExchanged, IsKeptOf, IsParted, Parted, kept_of, nth_end, nth_of, numbers_in}
 use Rattle.edge_table.specs.declared.positive.TheConstants.{MANY}
 use Rattle.edge_table.proofs.IndexLemmas.{among-at}
 
 -- a member of a list stands at a place
-pub among-place : (x : ℕ) (xs : List ℕ) → IsAmong x xs → (k : ℕ) × (k < length xs) × (nth_of xs k ≡ x)
-among-place x [] h = absurd h
-among-place x (y ∷ ys) (inl e) = (0, omega arith, sym e)
-among-place x (y ∷ ys) (inr h) = (let at = among-place x ys h in let less = at.1 in (suc at.0, omega arith, at.2))
+pub among-place : {A : Type 0} (x : A) (xs : List A) (d : A) → IsAmong x xs → (k : ℕ) × (k < length xs) × (get_or xs k d ≡ x)
+among-place x [] d h = absurd h
+among-place x (y ∷ ys) d (inl e) = (0, omega arith, sym e)
+among-place x (y ∷ ys) d (inr h) = (let at = among-place x ys d h in let less = at.1 in (suc at.0, omega arith, at.2))
+
+-- the number of the edge at a place
+pub nth-number : (ends : List (ℕ × ℕ)) (k : ℕ) → nth_of (numbers_in ends) k ≡ (nth_end ends k).1
+nth-number [] k = refl
+nth-number (x ∷ ends) zero = refl
+nth-number (x ∷ ends) (suc k) = nth-number ends k
+
+pub numbers-long : (ends : List (ℕ × ℕ)) → length (numbers_in ends) ≡ length ends
+numbers-long ends = length-map ends (λ e. e.1)
 
 -- no number stands at two places of a rising list
 pub one-place : (numbers : List ℕ) → AreRising numbers → (a b : ℕ) → a < length numbers → b < length numbers → nth_of numbers a ≡ nth_of numbers b → a ≡ b
@@ -36,275 +42,297 @@ one-place numbers rising a b inside_a inside_b same = elim (cases_lt a b) [
   ]
 ]
 
--- a search of a rising list finds a member of it
-pub search-found : (numbers : List ℕ) (x : ℕ) (r : Result ℕ ℕ) → AreRising numbers → IsAmong x numbers → IsBinarySearchResult (λ y. nat_cmp y x) numbers r → IsOk r
-search-found numbers x r rising among position = found r (searched numbers x r position level)
-  where
-    level : (i j : ℕ) → i ≤ j → j < length numbers → nth_of numbers i ≤ nth_of numbers j
-    level i j le inside = elim (cases_eq i j) [
-      | inl e ↦ (let same = ap (nth_of numbers) e in omega arith)
-      | inr apart ↦ (let less = rising i j (omega arith) inside in omega arith)
-    ]
+-- in a rising list a number that is below another stands before it, and one that is not below it does not
+pub place-from : (numbers : List ℕ) → AreRising numbers → (middle k : ℕ) → middle < length numbers → nth_of numbers middle < nth_of numbers k → middle + 1 ≤ k
+place-from numbers rising middle k inside less = elim (cases_lt middle k) [
+  | inl before ↦ omega arith
+  | inr after ↦ elim (cases_eq k middle) [
+    | inl same ↦ (let is = ap (nth_of numbers) same in absurd (omega arith))
+    | inr other ↦ (let above = rising k middle (omega arith) inside in absurd (omega arith))
+  ]
+]
 
-    found : (q : Result ℕ ℕ) → MatchResult q (λ i. (i < length numbers) × (nth_of numbers i ≡ x)) (λ i. (i ≤ length numbers) × ((k : ℕ) → k < i → nth_of numbers k < x) × ((k : ℕ) → i ≤ k → k < length numbers → x < nth_of numbers k)) → IsOk q
-    found (Ok i) at = refl
-    found (Err i) apart =
-        let at = among-place x numbers among in
-        let is = at.2 in
-        elim (cases_lt at.0 i) [
-          | inl less ↦ (let low = apart.1 at.0 less in absurd (omega arith))
-          | inr more ↦ (let high = apart.2 at.0 more at.1 in absurd (omega arith))
-        ]
+pub place-to : (numbers : List ℕ) → AreRising numbers → (middle k : ℕ) → k < length numbers → nth_of numbers k ≤ nth_of numbers middle → k ≤ middle
+place-to numbers rising middle k inside low = elim (cases_lt middle k) [
+  | inl before ↦ (let above = rising middle k before inside in absurd (omega arith))
+  | inr after ↦ omega arith
+]
 
--- no number, and no order
-pub parted-none : (counts : ℕ → Bool) → IsParted [] counts (record { order = []; indices = []; front = 0 })
+-- no edge, and no order
+pub parted-none : (counts : ℕ → Bool) → IsParted [] counts (record { order = []; places = []; indices = []; front = 0 })
 parted-none counts = record {
   long = refl;
+  placed = refl;
   indexed = refl;
   few = omega arith;
   within = λ k less. absurd (omega arith);
+  inside = λ i less. absurd (omega arith);
   there = λ k less. absurd (omega arith);
+  forth = λ k less. absurd (omega arith);
   back = λ i less. absurd (omega arith);
   first = λ k less. absurd (omega arith);
 }
 
--- a number more, which does not count
-pub parted-push : (numbers : List ℕ) (counts : ℕ → Bool) (order indices : List ℕ) (front number index : ℕ) → IsParted numbers counts (record { order = order; indices = indices; front = front }) → counts number ≡ false → index ≡ length order → IsParted (numbers ++ number ∷ []) counts (record { order = order ++ number ∷ []; indices = indices ++ index ∷ []; front = front })
-parted-push numbers counts order indices front number index parted free is =
+-- a number comes last
+pushed-last : (xs : List ℕ) (x n k : ℕ) → length xs ≡ n → k ≡ n → nth_of (xs ++ x ∷ []) k ≡ x
+pushed-last xs x n k long last = ap (nth_of (xs ++ x ∷ [])) (last ∙ sym long) ∙ get_or-append_seam xs x [] 0
+
+pushed-before : (xs : List ℕ) (x n k : ℕ) → length xs ≡ n → k < n → nth_of (xs ++ x ∷ []) k ≡ nth_of xs k
+pushed-before xs x n k long inside = get_or-append xs (x ∷ []) 0 k (omega arith)
+
+-- an edge more, which does not count
+pub parted-push : (ends : List (ℕ × ℕ)) (counts : ℕ → Bool) (order : List (ℕ × ℕ)) (places indices : List ℕ) (front : ℕ) (end : ℕ × ℕ) (last : ℕ) → IsParted ends counts (record { order = order; places = places; indices = indices; front = front }) → counts end.1 ≡ false → last ≡ length order → IsParted (ends ++ end ∷ []) counts (record { order = order ++ end ∷ []; places = places ++ last ∷ []; indices = indices ++ last ∷ []; front = front })
+parted-push ends counts order places indices front end last parted free is =
     let long = parted.long in
+    let placed = parted.placed in
     let indexed = parted.indexed in
     let few = parted.few in
-    let more = length-append numbers (number ∷ []) in
-    let more_order = length-append order (number ∷ []) in
-    let more_indices = length-append indices (index ∷ []) in
+    let more = length-append ends (end ∷ []) in
+    let more_order = length-append order (end ∷ []) in
+    let more_places = length-append places (last ∷ []) in
+    let more_indices = length-append indices (last ∷ []) in
     record {
       long = omega arith;
+      placed = omega arith;
       indexed = omega arith;
       few = omega arith;
-      within = λ k less. elim (cases_eq k (length numbers)) [
-        | inl last ↦ (let at = index-last k last in omega arith)
-        | inr other ↦ (let inside : k < length numbers = omega arith in let at = index-before k inside in let low = parted.within k inside in omega arith)
+      within = λ k less. elim (cases_eq k (length ends)) [
+        | inl at_end ↦ (let at = index-last k at_end in omega arith)
+        | inr other ↦ (let inside : k < length ends = omega arith in let at = index-before k inside in let low = parted.within k inside in omega arith)
       ];
-      there = λ k less. elim (cases_eq k (length numbers)) [
-        | inl last ↦ ap (nth_of (order ++ number ∷ [])) (index-last k last ∙ is) ∙ get_or-append_seam order number [] 0
-            ∙ sym (ap (nth_of (numbers ++ number ∷ [])) last ∙ get_or-append_seam numbers number [] 0)
-        | inr other ↦ (let inside : k < length numbers = omega arith in let low = parted.within k inside in
-            ap (nth_of (order ++ number ∷ [])) (index-before k inside) ∙ get_or-append order (number ∷ []) 0 (nth_of indices k) (omega arith)
-            ∙ parted.there k inside ∙ sym (get_or-append numbers (number ∷ []) 0 k inside))
+      inside = λ i less. elim (cases_eq i (length ends)) [
+        | inl at_end ↦ (let at = place-last i at_end in omega arith)
+        | inr other ↦ (let inside : i < length ends = omega arith in let at = place-before i inside in let low = parted.inside i inside in omega arith)
       ];
-      back = λ i less. elim (cases_eq i (length numbers)) [
-        | inl last ↦ (length numbers, omega arith, index-last (length numbers) refl ∙ is ∙ long ∙ sym last)
-        | inr other ↦ (let found = parted.back i (omega arith) in let inside = found.1 in (found.0, omega arith, index-before found.0 inside ∙ found.2))
+      there = λ k less. elim (cases_eq k (length ends)) [
+        | inl at_end ↦ ap (nth_end (order ++ end ∷ [])) (index-last k at_end ∙ is) ∙ get_or-append_seam order end [] (0, 0)
+            ∙ sym (ap (nth_end (ends ++ end ∷ [])) at_end ∙ get_or-append_seam ends end [] (0, 0))
+        | inr other ↦ (let inside : k < length ends = omega arith in let low = parted.within k inside in
+            ap (nth_end (order ++ end ∷ [])) (index-before k inside) ∙ get_or-append order (end ∷ []) (0, 0) (nth_of indices k) (omega arith)
+            ∙ parted.there k inside ∙ sym (get_or-append ends (end ∷ []) (0, 0) k inside))
       ];
-      first = λ k less. elim (cases_eq k (length numbers)) [
-        | inl last ↦ (let at = index-last k last in
-            let here : nth_of (numbers ++ number ∷ []) k ≡ number = ap (nth_of (numbers ++ number ∷ [])) last ∙ get_or-append_seam numbers number [] 0 in
+      forth = λ k less. elim (cases_eq k (length ends)) [
+        | inl at_end ↦ ap (nth_of (places ++ last ∷ [])) (index-last k at_end) ∙ place-last last (is ∙ long) ∙ is ∙ long ∙ sym at_end
+        | inr other ↦ (let inside : k < length ends = omega arith in
+            ap (nth_of (places ++ last ∷ [])) (index-before k inside) ∙ place-before (nth_of indices k) (parted.within k inside) ∙ parted.forth k inside)
+      ];
+      back = λ i less. elim (cases_eq i (length ends)) [
+        | inl at_end ↦ ap (nth_of (indices ++ last ∷ [])) (place-last i at_end) ∙ index-last last (is ∙ long) ∙ is ∙ long ∙ sym at_end
+        | inr other ↦ (let inside : i < length ends = omega arith in
+            ap (nth_of (indices ++ last ∷ [])) (place-before i inside) ∙ index-before (nth_of places i) (parted.inside i inside) ∙ parted.back i inside)
+      ];
+      first = λ k less. elim (cases_eq k (length ends)) [
+        | inl at_end ↦ (let at = index-last k at_end in
+            let here : nth_of (numbers_in (ends ++ end ∷ [])) k ≡ end.1 = nth-number (ends ++ end ∷ []) k
+            ∙ ap (λ (e : ℕ × ℕ). e.1) (ap (nth_end (ends ++ end ∷ [])) at_end ∙ get_or-append_seam ends end [] (0, 0)) in
             ((λ low. absurd (omega arith)), (λ h. absurd (false≢true (sym free ∙ ap counts (sym here) ∙ h)))))
-        | inr other ↦ (let inside : k < length numbers = omega arith in
+        | inr other ↦ (let inside : k < length ends = omega arith in
             let at = index-before k inside in
-            let here = get_or-append numbers (number ∷ []) 0 k inside in (
+            let here : nth_of (numbers_in (ends ++ end ∷ [])) k ≡ nth_of (numbers_in ends) k = nth-number (ends ++ end ∷ []) k
+            ∙ ap (λ (e : ℕ × ℕ). e.1) (get_or-append ends (end ∷ []) (0, 0) k inside) ∙ sym (nth-number ends k) in (
               (λ low. ap counts here ∙ (parted.first k inside).0 (omega arith)),
               (λ h. let low = (parted.first k inside).1 (ap counts (sym here) ∙ h) in omega arith),
             ))
       ];
     }
   where
-    index-last : (k : ℕ) → k ≡ length numbers → nth_of (indices ++ index ∷ []) k ≡ index
-    index-last k last = ap (nth_of (indices ++ index ∷ [])) (last ∙ sym parted.indexed) ∙ get_or-append_seam indices index [] 0
+    index-last : (k : ℕ) → k ≡ length ends → nth_of (indices ++ last ∷ []) k ≡ last
+    index-last k at_end = pushed-last indices last (length ends) k parted.indexed at_end
 
-    index-before : (k : ℕ) → k < length numbers → nth_of (indices ++ index ∷ []) k ≡ nth_of indices k
-    index-before k inside = (let indexed = parted.indexed in get_or-append indices (index ∷ []) 0 k (omega arith))
+    index-before : (k : ℕ) → k < length ends → nth_of (indices ++ last ∷ []) k ≡ nth_of indices k
+    index-before k inside = pushed-before indices last (length ends) k parted.indexed inside
 
-module _ (numbers : List ℕ) (rising : AreRising numbers) (old : ℕ → Bool) (s : Parted) (parted : IsParted numbers old s) where
-  -- what stands at an index of the order is a number of the list
-  pub order-among : (i : ℕ) → i < length numbers → (k : ℕ) × (k < length numbers) × (nth_of s.indices k ≡ i) × (nth_of numbers k ≡ nth_of s.order i)
-  order-among i inside =
-      let found = parted.back i inside in
-      (found.0, found.1, found.2, sym (parted.there found.0 found.1) ∙ ap (nth_of s.order) found.2)
+    place-last : (i : ℕ) → i ≡ length ends → nth_of (places ++ last ∷ []) i ≡ last
+    place-last i at_end = pushed-last places last (length ends) i parted.placed at_end
 
-  module _ (t : Parted) (k j : ℕ) (inside_k : k < length numbers) (inside_j : j < length numbers) (swap : IsExchanged numbers s t k j) where
-    i_of : ℕ
-    i_of = nth_of s.indices k
+    place-before : (i : ℕ) → i < length ends → nth_of (places ++ last ∷ []) i ≡ nth_of places i
+    place-before i inside = pushed-before places last (length ends) i parted.placed inside
 
-    -- the other number stood at j
-    other-at : nth_of s.indices swap.other ≡ j
-    other-at =
-        let found = order-among j inside_j in
-        let same = one-place numbers rising found.0 swap.other found.1 swap.inside (found.3 ∙ sym swap.is) in
-        ap (nth_of s.indices) (sym same) ∙ found.2
+-- what stands at an index of the order is the edge at its place of the list
+pub order-is : (ends : List (ℕ × ℕ)) (counts : ℕ → Bool) (s : Parted) → IsParted ends counts s → (i : ℕ) → i < length ends → nth_end s.order i ≡ nth_end ends (nth_of s.places i)
+order-is ends counts s parted i inside = ap (nth_end s.order) (sym (parted.back i inside)) ∙ parted.there (nth_of s.places i) (parted.inside i inside)
 
-    -- the index of each number afterwards
-    index-moved : nth_of t.indices k ≡ j
-    index-moved = ap (λ is. nth_of is k) swap.indices
-        ∙ get_or-set_same (set s.indices swap.other (nth_of s.indices k)) k j 0 (let long = length-set s.indices swap.other (nth_of s.indices k) in let indexed = parted.indexed in omega arith)
+module _ (ends : List (ℕ × ℕ)) (rising : AreRising (numbers_in ends)) (old : ℕ → Bool) (s : Parted) (parted : IsParted ends old s) where
+  same-place : (a b : ℕ) → a < length ends → b < length ends → nth_of (numbers_in ends) a ≡ nth_of (numbers_in ends) b → a ≡ b
+  same-place a b inside_a inside_b same = (let long = numbers-long ends in one-place (numbers_in ends) rising a b (omega arith) (omega arith) same)
 
-    index-other : swap.other ≢ k → nth_of t.indices swap.other ≡ nth_of s.indices k
-    index-other apart = ap (λ is. nth_of is swap.other) swap.indices
-        ∙ get_or-set_other (set s.indices swap.other (nth_of s.indices k)) k swap.other j 0 apart
-        ∙ get_or-set_same s.indices swap.other (nth_of s.indices k) 0 (let indexed = parted.indexed in let inside = swap.inside in omega arith)
+  module _ (t : Parted) (i j : ℕ) (inside_i : i < length ends) (inside_j : j < length ends) (swap : IsExchanged s t i j) where
+    -- where both stand afterwards, and the others
+    index-j : nth_of t.indices (nth_of s.places j) ≡ i
+    index-j = ap (λ is. nth_of is (nth_of s.places j)) swap.indices
+        ∙ get_or-set_same (set s.indices (nth_of s.places i) j) (nth_of s.places j) i 0 (let long = length-set s.indices (nth_of s.places i) j in let indexed = parted.indexed in let low = parted.inside j inside_j in omega arith)
 
-    index-rest : (r : ℕ) → r ≢ k → r ≢ swap.other → nth_of t.indices r ≡ nth_of s.indices r
-    index-rest r not_k not_other = ap (λ is. nth_of is r) swap.indices
-        ∙ get_or-set_other (set s.indices swap.other (nth_of s.indices k)) k r j 0 not_k
-        ∙ get_or-set_other s.indices swap.other r (nth_of s.indices k) 0 not_other
+    index-i : nth_of t.indices (nth_of s.places i) ≡ j
+    index-i = elim (cases_eq (nth_of s.places i) (nth_of s.places j)) [
+      | inl same ↦ ap (nth_of t.indices) same ∙ index-j ∙ sym (parted.back i inside_i) ∙ ap (nth_of s.indices) same ∙ parted.back j inside_j
+      | inr apart ↦ ap (λ is. nth_of is (nth_of s.places i)) swap.indices
+          ∙ get_or-set_other (set s.indices (nth_of s.places i) j) (nth_of s.places j) (nth_of s.places i) i 0 apart
+          ∙ get_or-set_same s.indices (nth_of s.places i) j 0 (let indexed = parted.indexed in let low = parted.inside i inside_i in omega arith)
+    ]
 
-    -- numbers stand at the same index where they are the same
-    same-index : (a b : ℕ) → a < length numbers → b < length numbers → nth_of s.indices a ≡ nth_of s.indices b → a ≡ b
-    same-index a b inside_a inside_b same =
-        one-place numbers rising a b inside_a inside_b (sym (parted.there a inside_a) ∙ ap (nth_of s.order) same ∙ parted.there b inside_b)
+    index-rest : (r : ℕ) → r ≢ nth_of s.places i → r ≢ nth_of s.places j → nth_of t.indices r ≡ nth_of s.indices r
+    index-rest r not_i not_j = ap (λ is. nth_of is r) swap.indices
+        ∙ get_or-set_other (set s.indices (nth_of s.places i) j) (nth_of s.places j) r i 0 not_j
+        ∙ get_or-set_other s.indices (nth_of s.places i) r j 0 not_i
 
-    order-moved : nth_of t.order j ≡ nth_of numbers k
-    order-moved = ap (λ os. nth_of os j) swap.order
-        ∙ get_or-set_same (set s.order (nth_of s.indices k) (nth_of numbers swap.other)) j (nth_of numbers k) 0
-        (let long = length-set s.order (nth_of s.indices k) (nth_of numbers swap.other) in let same = parted.long in omega arith)
-
-    order-other : nth_of s.indices k ≢ j → nth_of t.order (nth_of s.indices k) ≡ nth_of numbers swap.other
-    order-other apart = ap (λ os. nth_of os (nth_of s.indices k)) swap.order
-        ∙ get_or-set_other (set s.order (nth_of s.indices k) (nth_of numbers swap.other)) j (nth_of s.indices k) (nth_of numbers k) 0 apart
-        ∙ get_or-set_same s.order (nth_of s.indices k) (nth_of numbers swap.other) 0 (let long = parted.long in let low = parted.within k inside_k in omega arith)
-
-    order-rest : (i : ℕ) → i ≢ j → i ≢ nth_of s.indices k → nth_of t.order i ≡ nth_of s.order i
-    order-rest i not_j not_from = ap (λ os. nth_of os i) swap.order
-        ∙ get_or-set_other (set s.order (nth_of s.indices k) (nth_of numbers swap.other)) j i (nth_of numbers k) 0 not_j
-        ∙ get_or-set_other s.order (nth_of s.indices k) i (nth_of numbers swap.other) 0 not_from
-
-    -- a number is the one that moved, the one that made way, or another
+    -- an edge of the list stood at the one index, at the other, or elsewhere
     abbrev Which : ℕ → Type 0
     Which r =
-        ((r ≡ k) × (nth_of t.indices r ≡ j))
-        ⊎ (((r ≢ k) × (r ≡ swap.other) × (nth_of t.indices r ≡ nth_of s.indices k) × (nth_of s.indices k ≢ j))
-        ⊎ ((r ≢ k) × (r ≢ swap.other) × (nth_of t.indices r ≡ nth_of s.indices r) × (nth_of s.indices r ≢ j) × (nth_of s.indices r ≢ nth_of s.indices k)))
+        ((r ≡ nth_of s.places i) × (nth_of t.indices r ≡ j))
+        ⊎ (((r ≢ nth_of s.places i) × (r ≡ nth_of s.places j) × (nth_of t.indices r ≡ i) × (i ≢ j))
+        ⊎ ((r ≢ nth_of s.places i) × (r ≢ nth_of s.places j) × (nth_of t.indices r ≡ nth_of s.indices r) × (nth_of s.indices r ≢ i) × (nth_of s.indices r ≢ j)))
 
-    which : (r : ℕ) → r < length numbers → Which r
-    which r inside = elim (cases_eq r k) [
-      | inl is_k ↦ inl (is_k, ap (nth_of t.indices) is_k ∙ index-moved)
-      | inr not_k ↦ elim (cases_eq r swap.other) [
-        | inl is_other ↦ (let apart : swap.other ≢ k = (λ e. not_k (is_other ∙ e)) in
-            inr (inl (
-              not_k,
-              is_other,
-              ap (nth_of t.indices) is_other ∙ index-other apart,
-              (λ e. apart (same-index swap.other k swap.inside inside_k (other-at ∙ sym e))),
-            )))
-        | inr not_other ↦ inr (inr (
-          not_k,
-          not_other,
-          index-rest r not_k not_other,
-          (λ e. not_other (same-index r swap.other inside swap.inside (e ∙ sym other-at))),
-          (λ e. not_k (same-index r k inside inside_k e)),
+    which : (r : ℕ) → r < length ends → Which r
+    which r inside = elim (cases_eq r (nth_of s.places i)) [
+      | inl at_i ↦ inl (at_i, ap (nth_of t.indices) at_i ∙ index-i)
+      | inr not_i ↦ elim (cases_eq r (nth_of s.places j)) [
+        | inl at_j ↦ inr (inl (not_i, at_j, ap (nth_of t.indices) at_j ∙ index-j, (λ e. not_i (at_j ∙ ap (nth_of s.places) (sym e)))))
+        | inr not_j ↦ inr (inr (
+          not_i,
+          not_j,
+          index-rest r not_i not_j,
+          (λ e. not_i (sym (parted.forth r inside) ∙ ap (nth_of s.places) e)),
+          (λ e. not_j (sym (parted.forth r inside) ∙ ap (nth_of s.places) e)),
         ))
       ]
     ]
 
-    -- the order has each number at its index, and those that count now stand first
-    exchanged : (new : ℕ → Bool) (front : ℕ) → front ≤ length numbers → ((r : ℕ) → r < length numbers → (nth_of t.indices r < front) ↔ (new (nth_of numbers r) ≡ true)) → IsParted numbers new (record { order = t.order; indices = t.indices; front = front })
+    -- the order has each edge at its index, and those that count now stand first
+    exchanged : (new : ℕ → Bool) (front : ℕ) → front ≤ length ends → ((r : ℕ) → r < length ends → (nth_of t.indices r < front) ↔ (new (nth_of (numbers_in ends) r) ≡ true)) → IsParted ends new (record { order = t.order; places = t.places; indices = t.indices; front = front })
     exchanged new front few first = record {
-      long = ap length swap.order ∙ length-set (set s.order (nth_of s.indices k) (nth_of numbers swap.other)) j (nth_of numbers k) ∙ length-set s.order (nth_of s.indices k) (nth_of numbers swap.other) ∙ parted.long;
-      indexed = ap length swap.indices ∙ length-set (set s.indices swap.other (nth_of s.indices k)) k j ∙ length-set s.indices swap.other (nth_of s.indices k) ∙ parted.indexed;
+      long = ap length (swap.order.3 (0, 0)) ∙ length-set (set s.order i (nth_end s.order j)) j (nth_end s.order i) ∙ length-set s.order i (nth_end s.order j) ∙ parted.long;
+      placed = ap length (swap.places.3 0) ∙ length-set (set s.places i (nth_of s.places j)) j (nth_of s.places i) ∙ length-set s.places i (nth_of s.places j) ∙ parted.placed;
+      indexed = ap length swap.indices ∙ length-set (set s.indices (nth_of s.places i) j) (nth_of s.places j) i ∙ length-set s.indices (nth_of s.places i) j ∙ parted.indexed;
       few = few;
       within = λ r inside. elim (which r inside) [
-        | inl moved ↦ (let at = moved.1 in omega arith)
-        | inr (inl way) ↦ (let at = way.2 in let low = parted.within k inside_k in omega arith)
+        | inl from_i ↦ (let at = from_i.1 in omega arith)
+        | inr (inl from_j) ↦ (let at = from_j.2 in omega arith)
         | inr (inr rest) ↦ (let at = rest.2 in let low = parted.within r inside in omega arith)
       ];
-      there = λ r inside. elim (which r inside) [
-        | inl moved ↦ ap (nth_of t.order) moved.1 ∙ order-moved ∙ ap (nth_of numbers) (sym moved.0)
-        | inr (inl way) ↦ ap (nth_of t.order) way.2 ∙ order-other way.3 ∙ ap (nth_of numbers) (sym way.1)
-        | inr (inr rest) ↦ ap (nth_of t.order) rest.2 ∙ order-rest (nth_of s.indices r) rest.3 rest.4 ∙ parted.there r inside
+      inside = λ q inside. elim (cases_eq q i) [
+        | inl at_i ↦ (let at = ap (nth_of t.places) at_i ∙ swap.places.0 0 in let low = parted.inside j inside_j in omega arith)
+        | inr not_i ↦ elim (cases_eq q j) [
+          | inl at_j ↦ (let at = ap (nth_of t.places) at_j ∙ swap.places.1 0 in let low = parted.inside i inside_i in omega arith)
+          | inr not_j ↦ (let at = swap.places.2 q 0 not_i not_j in let low = parted.inside q inside in omega arith)
+        ]
       ];
-      back = λ i inside. elim (cases_eq i j) [
-        | inl is_j ↦ (k, inside_k, index-moved ∙ sym is_j)
-        | inr not_j ↦ (let found = parted.back i inside in elim (which found.0 found.1) [
-          | inl moved ↦ (let apart : swap.other ≢ k = (λ e. not_j (sym found.2 ∙ ap (nth_of s.indices) (moved.0 ∙ sym e) ∙ other-at)) in
-              (swap.other, swap.inside, index-other apart ∙ ap (nth_of s.indices) (sym moved.0) ∙ found.2))
-          | inr (inl way) ↦ absurd (not_j (sym found.2 ∙ ap (nth_of s.indices) way.1 ∙ other-at))
-          | inr (inr rest) ↦ (found.0, found.1, rest.2 ∙ found.2)
-        ])
+      there = λ r inside. elim (which r inside) [
+        | inl from_i ↦ ap (nth_end t.order) from_i.1 ∙ swap.order.1 (0, 0) ∙ order-is ends old s parted i inside_i ∙ ap (nth_end ends) (sym from_i.0)
+        | inr (inl from_j) ↦ ap (nth_end t.order) from_j.2 ∙ swap.order.0 (0, 0) ∙ order-is ends old s parted j inside_j ∙ ap (nth_end ends) (sym from_j.1)
+        | inr (inr rest) ↦ ap (nth_end t.order) rest.2 ∙ swap.order.2 (nth_of s.indices r) (0, 0) rest.3 rest.4 ∙ parted.there r inside
+      ];
+      forth = λ r inside. elim (which r inside) [
+        | inl from_i ↦ ap (nth_of t.places) from_i.1 ∙ swap.places.1 0 ∙ sym from_i.0
+        | inr (inl from_j) ↦ ap (nth_of t.places) from_j.2 ∙ swap.places.0 0 ∙ sym from_j.1
+        | inr (inr rest) ↦ ap (nth_of t.places) rest.2 ∙ swap.places.2 (nth_of s.indices r) 0 rest.3 rest.4 ∙ parted.forth r inside
+      ];
+      back = λ q inside. elim (cases_eq q i) [
+        | inl at_i ↦ ap (nth_of t.indices) (ap (nth_of t.places) at_i ∙ swap.places.0 0) ∙ index-j ∙ sym at_i
+        | inr not_i ↦ elim (cases_eq q j) [
+          | inl at_j ↦ ap (nth_of t.indices) (ap (nth_of t.places) at_j ∙ swap.places.1 0) ∙ index-i ∙ sym at_j
+          | inr not_j ↦ ap (nth_of t.indices) (swap.places.2 q 0 not_i not_j)
+              ∙ index-rest (nth_of s.places q)
+              (λ e. not_i (sym (parted.back q inside) ∙ ap (nth_of s.indices) e ∙ parted.back i inside_i))
+              (λ e. not_j (sym (parted.back q inside) ∙ ap (nth_of s.indices) e ∙ parted.back j inside_j))
+              ∙ parted.back q inside
+        ]
       ];
       first = first;
     }
 
-    -- another number counts as before
-    others : (new : ℕ → Bool) {v : Bool} → CountsAt old new (nth_of numbers k) v → (r : ℕ) → r < length numbers → r ≢ k → new (nth_of numbers r) ≡ old (nth_of numbers r)
-    others new counts r inside not_k = counts.others (nth_of numbers r) (λ e. not_k (one-place numbers rising r k inside inside_k e))
+    module _ (k : ℕ) (inside_k : k < length ends) (at_k : i ≡ nth_of s.indices k) where
+      -- the edge at the place stood at the first of the two indices
+      is_k : nth_of s.places i ≡ k
+      is_k = ap (nth_of s.places) at_k ∙ parted.forth k inside_k
 
-    -- the number counts now: it comes last of those that do
-    pub raised : (new : ℕ → Bool) → j ≡ s.front → s.front ≤ nth_of s.indices k → CountsAt old new (nth_of numbers k) true → IsParted numbers new (record { order = t.order; indices = t.indices; front = s.front + 1 })
-    raised new at_front high counts = exchanged new (s.front + 1) (omega arith) (λ r inside. elim (which r inside) [
-      | inl moved ↦ (let at = moved.1 in ((λ low. ap (λ n. new (nth_of numbers n)) moved.0 ∙ counts.here), (λ h. omega arith)))
-      | inr (inl way) ↦ (let at = way.2 in let apart = way.3 in
-          let was = ap (nth_of s.indices) way.1 ∙ other-at in (
-            (λ low. absurd (apart (omega arith))),
-            (λ h. let low = (parted.first r inside).1 (sym (others new counts r inside way.0) ∙ h) in absurd (omega arith)),
-          ))
-      | inr (inr rest) ↦ (let at = rest.2 in let apart = rest.3 in (
-        (λ low. others new counts r inside rest.0 ∙ (parted.first r inside).0 (below (nth_of s.indices r) (omega arith) apart)),
-        (λ h. let low = (parted.first r inside).1 (sym (others new counts r inside rest.0) ∙ h) in omega arith),
-      ))
-    ])
-      where
-        below : (x : ℕ) → x ≤ s.front → x ≢ j → x < s.front
-        below x low apart = elim (cases_eq x s.front) [ inl e ↦ absurd (apart (e ∙ sym at_front)) | inr _ ↦ omega arith ]
+      -- another counts as before
+      others : (new : ℕ → Bool) {v : Bool} → CountsAt old new (nth_of (numbers_in ends) k) v → (r : ℕ) → r < length ends → r ≢ nth_of s.places i → new (nth_of (numbers_in ends) r) ≡ old (nth_of (numbers_in ends) r)
+      others new counts r inside not_i = counts.others (nth_of (numbers_in ends) r) (λ e. not_i (same-place r k inside inside_k e ∙ sym is_k))
 
-    -- it does not: it comes first of those that do not
-    pub lowered : (new : ℕ → Bool) → j + 1 ≡ s.front → nth_of s.indices k < s.front → CountsAt old new (nth_of numbers k) false → IsParted numbers new (record { order = t.order; indices = t.indices; front = j })
-    lowered new at_front low counts = exchanged new j (omega arith) (λ r inside. elim (which r inside) [
-      | inl moved ↦ (let at = moved.1 in ((λ less. absurd (omega arith)), (λ h. absurd (false≢true (sym counts.here ∙ ap (λ n. new (nth_of numbers n)) (sym moved.0) ∙ h)))))
-      | inr (inl way) ↦ (let at = way.2 in let apart = way.3 in
-          let was = ap (nth_of s.indices) way.1 ∙ other-at in (
-            (λ less. others new counts r inside way.0 ∙ (parted.first r inside).0 (omega arith)),
-            (λ h. below (nth_of t.indices r) (omega arith) (λ e. apart (sym at ∙ e))),
-          ))
-      | inr (inr rest) ↦ (let at = rest.2 in let apart = rest.3 in (
-        (λ less. others new counts r inside rest.0 ∙ (parted.first r inside).0 (omega arith)),
-        (λ h. let before = (parted.first r inside).1 (sym (others new counts r inside rest.0) ∙ h) in below (nth_of t.indices r) (omega arith) (λ e. apart (sym at ∙ e))),
-      ))
-    ])
-      where
-        below : (x : ℕ) → x ≤ j → x ≢ j → x < j
-        below x less apart = elim (cases_eq x j) [ inl e ↦ absurd (apart e) | inr _ ↦ omega arith ]
+      -- the edge counts now: it comes last of those that do
+      pub raised : (new : ℕ → Bool) → j ≡ s.front → s.front ≤ i → CountsAt old new (nth_of (numbers_in ends) k) true → IsParted ends new (record { order = t.order; places = t.places; indices = t.indices; front = s.front + 1 })
+      raised new at_front high counts = exchanged new (s.front + 1) (omega arith) (λ r inside. elim (which r inside) [
+        | inl from_i ↦ (let at = from_i.1 in ((λ low. ap (λ n. new (nth_of (numbers_in ends) n)) (from_i.0 ∙ is_k) ∙ counts.here), (λ h. omega arith)))
+        | inr (inl from_j) ↦ (let at = from_j.2 in let apart = from_j.3 in
+            let was = ap (nth_of s.indices) from_j.1 ∙ parted.back j inside_j in (
+              (λ low. absurd (apart (omega arith))),
+              (λ h. let low = (parted.first r inside).1 (sym (others new counts r inside from_j.0) ∙ h) in absurd (omega arith)),
+            ))
+        | inr (inr rest) ↦ (let at = rest.2 in let apart = rest.4 in (
+          (λ low. others new counts r inside rest.0 ∙ (parted.first r inside).0 (below (nth_of s.indices r) (omega arith) apart)),
+          (λ h. let low = (parted.first r inside).1 (sym (others new counts r inside rest.0) ∙ h) in omega arith),
+        ))
+      ])
+        where
+          below : (x : ℕ) → x ≤ s.front → x ≢ j → x < s.front
+          below x low apart = elim (cases_eq x s.front) [ inl e ↦ absurd (apart (e ∙ sym at_front)) | inr _ ↦ omega arith ]
 
-  -- a number that counts as it did
-  pub kept : (new : ℕ → Bool) (k : ℕ) (counts : Bool) → k < length numbers → ((counts ≡ true) ↔ (nth_of s.indices k < s.front)) → CountsAt old new (nth_of numbers k) counts → IsParted numbers new s
+      -- it does not: it comes first of those that do not
+      pub lowered : (new : ℕ → Bool) → j + 1 ≡ s.front → i < s.front → CountsAt old new (nth_of (numbers_in ends) k) false → IsParted ends new (record { order = t.order; places = t.places; indices = t.indices; front = j })
+      lowered new at_front low counts = exchanged new j (omega arith) (λ r inside. elim (which r inside) [
+        | inl from_i ↦ (let at = from_i.1 in ((λ less. absurd (omega arith)), (λ h. absurd (false≢true (sym counts.here ∙ ap (λ n. new (nth_of (numbers_in ends) n)) (sym (from_i.0 ∙ is_k)) ∙ h)))))
+        | inr (inl from_j) ↦ (let at = from_j.2 in let apart = from_j.3 in
+            let was = ap (nth_of s.indices) from_j.1 ∙ parted.back j inside_j in (
+              (λ less. others new counts r inside from_j.0 ∙ (parted.first r inside).0 (omega arith)),
+              (λ h. below (nth_of t.indices r) (omega arith) (λ e. apart (sym at ∙ e))),
+            ))
+        | inr (inr rest) ↦ (let at = rest.2 in let apart = rest.4 in (
+          (λ less. others new counts r inside rest.0 ∙ (parted.first r inside).0 (omega arith)),
+          (λ h. let before = (parted.first r inside).1 (sym (others new counts r inside rest.0) ∙ h) in below (nth_of t.indices r) (omega arith) (λ e. apart (sym at ∙ e))),
+        ))
+      ])
+        where
+          below : (x : ℕ) → x ≤ j → x ≢ j → x < j
+          below x less apart = elim (cases_eq x j) [ inl e ↦ absurd (apart e) | inr _ ↦ omega arith ]
+
+  -- an edge that counts as it did
+  pub kept : (new : ℕ → Bool) (k : ℕ) (counts : Bool) → k < length ends → ((counts ≡ true) ↔ (nth_of s.indices k < s.front)) → CountsAt old new (nth_of (numbers_in ends) k) counts → IsParted ends new s
   kept new k counts inside same at = record {
     long = parted.long;
+    placed = parted.placed;
     indexed = parted.indexed;
     few = parted.few;
     within = parted.within;
+    inside = parted.inside;
     there = parted.there;
+    forth = parted.forth;
     back = parted.back;
     first = λ r inside_r. elim (cases_eq r k) [
-      | inl is ↦ (let here : new (nth_of numbers r) ≡ counts = ap (λ n. new (nth_of numbers n)) is ∙ at.here in
+      | inl is ↦ (let here : new (nth_of (numbers_in ends) r) ≡ counts = ap (λ n. new (nth_of (numbers_in ends) n)) is ∙ at.here in
           ((λ low. here ∙ same.1 (subst (λ n. nth_of s.indices n < s.front) is low)), (λ h. subst (λ n. nth_of s.indices n < s.front) (sym is) (same.0 (sym here ∙ h)))))
-      | inr other ↦ (let before = at.others (nth_of numbers r) (λ e. other (one-place numbers rising r k inside_r inside e)) in
+      | inr other ↦ (let before = at.others (nth_of (numbers_in ends) r) (λ e. other (same-place r k inside_r inside e)) in
           ((λ low. before ∙ (parted.first r inside_r).0 low), (λ h. (parted.first r inside_r).1 (sym before ∙ h))))
     ];
   }
 
 -- tests that agree on the numbers
-pub parted-alike : (numbers : List ℕ) (old new : ℕ → Bool) (s : Parted) → ((n : ℕ) → IsAmong n numbers → new n ≡ old n) → IsParted numbers old s → IsParted numbers new s
-parted-alike numbers old new s alike parted = record {
+pub parted-alike : (ends : List (ℕ × ℕ)) (old new : ℕ → Bool) (s : Parted) → ((n : ℕ) → IsAmong n (numbers_in ends) → new n ≡ old n) → IsParted ends old s → IsParted ends new s
+parted-alike ends old new s alike parted = record {
   long = parted.long;
+  placed = parted.placed;
   indexed = parted.indexed;
   few = parted.few;
   within = parted.within;
+  inside = parted.inside;
   there = parted.there;
+  forth = parted.forth;
   back = parted.back;
-  first = λ k inside. (let same = alike (nth_of numbers k) (among-at numbers k 0 inside) in
+  first = λ k inside. (let long = numbers-long ends in
+      let same = alike (nth_of (numbers_in ends) k) (among-at (numbers_in ends) k 0 (omega arith)) in
       ((λ low. same ∙ (parted.first k inside).0 low), (λ h. (parted.first k inside).1 (sym same ∙ h))));
 }
 
-pub kept-alike : (numbers : List ℕ) (old new : ℕ → Bool) (kept : Option Parted) → ((n : ℕ) → IsAmong n numbers → new n ≡ old n) → IsKeptOf numbers old kept → IsKeptOf numbers new kept
-kept-alike numbers old new kept alike is = λ s there. (let was = is s there in (was.0, parted-alike numbers old new s alike was.1))
+pub kept-alike : (ends : List (ℕ × ℕ)) (old new : ℕ → Bool) (kept : Option Parted) → ((n : ℕ) → IsAmong n (numbers_in ends) → new n ≡ old n) → IsKeptOf ends old kept → IsKeptOf ends new kept
+kept-alike ends old new kept alike is = λ s there. (let was = is s there in (was.0, parted-alike ends old new s alike was.1))
 
 -- nothing is kept
-pub kept-none : (numbers : List ℕ) (counts : ℕ → Bool) (kept : Option Parted) → kept ≡ None → IsKeptOf numbers counts kept
-kept-none numbers counts kept none = λ s there. absurd (none-some s (sym none ∙ there))
+pub kept-none : (ends : List (ℕ × ℕ)) (counts : ℕ → Bool) (kept : Option Parted) → kept ≡ None → IsKeptOf ends counts kept
+kept-none ends counts kept none = λ s there. absurd (none-some s (sym none ∙ there))
 
 -- of a short list nothing is
-pub kept-short : (numbers : List ℕ) (counts : ℕ → Bool) (kept : Option Parted) → length numbers ≤ MANY → IsKeptOf numbers counts kept → kept ≡ None
-kept-short numbers counts None short is = refl
-kept-short numbers counts (Some s) short is = (let long = (is s refl).0 in absurd (omega arith))
+pub kept-short : (ends : List (ℕ × ℕ)) (counts : ℕ → Bool) (kept : Option Parted) → length ends ≤ MANY → IsKeptOf ends counts kept → kept ≡ None
+kept-short ends counts None short is = refl
+kept-short ends counts (Some s) short is = (let long = (is s refl).0 in absurd (omega arith))
 
 -- another place is at no entry of this one
 pub place-apart : (place p : ℕ) → p ≢ place → is_at (nat_cmp place) p ≡ false

@@ -8,8 +8,9 @@ use Rattle.std.specs.Option.{IsSome, option_to_list}
 use Rattle.crgc_ids.specs.Actor.{Actor}
 use Rattle.crgc_ids.proofs.MembersLaws.{all-implied}
 use Rattle.edge_table.specs.Ends.{HaveSameLists, PlaceEnds, no_ends, numbers_of}
-use Rattle.edge_table.specs.Table.{IsTable, same_pair}
+use Rattle.edge_table.specs.Table.{IsTable, ends_from, ends_of, ends_to, same_pair}
 use Rattle.edge_table.specs.declared.table.Edge.{Edge}
+use Rattle.edge_table.proofs.EndsLemmas.{ends-same}
 use Rattle.edge_table.proofs.PlaceLemmas.{edge-popped, edge-pushed, numbers-none, place-added, place-removed, side-stays}
 
 abbrev pub owner_of : Edge → ℕ
@@ -18,10 +19,10 @@ owner_of e = e.owner
 abbrev pub target_of : Edge → ℕ
 target_of e = e.target
 
-abbrev pub from_of : PlaceEnds → List ℕ
+abbrev pub from_of : PlaceEnds → List (ℕ × ℕ)
 from_of e = e.from
 
-abbrev pub to_of : PlaceEnds → List ℕ
+abbrev pub to_of : PlaceEnds → List (ℕ × ℕ)
 to_of e = e.to
 
 -- both ends of an edge are places
@@ -55,8 +56,8 @@ table-place_removed pairs edges places fewer last table is no_owner no_target =
       few_places = (let few = table.few_places in omega arith);
       distinct = table.distinct;
       ends = inside edges table.ends (numbers-none (length fewer) 0 (map owner_of edges) owners) (numbers-none (length fewer) 0 (map target_of edges) targets) long;
-      from = λ p. place-removed from_of refl (λ q. numbers_of q 0 (map owner_of edges)) fewer last p (λ q. ap (λ ps. from_of (get_or ps q no_ends)) (sym is) ∙ table.from q) owners;
-      to = λ p. place-removed to_of refl (λ q. numbers_of q 0 (map target_of edges)) fewer last p (λ q. ap (λ ps. to_of (get_or ps q no_ends)) (sym is) ∙ table.to q) targets;
+      from = λ p. place-removed from_of refl (ends_from edges) fewer last p (λ q. ap (λ ps. from_of (get_or ps q no_ends)) (sym is) ∙ table.from q) (ap (ends_of target_of edges) owners);
+      to = λ p. place-removed to_of refl (ends_to edges) fewer last p (λ q. ap (λ ps. to_of (get_or ps q no_ends)) (sym is) ∙ table.to q) (ap (ends_of owner_of edges) targets);
     }
   where
     inside : (edges : List Edge) → AllByRecursion (IsInside (length places)) edges → AllByRecursion (λ x. x ≢ length fewer) (map owner_of edges) → AllByRecursion (λ x. x ≢ length fewer) (map target_of edges) → length places ≡ length fewer + 1 → AllByRecursion (IsInside (length fewer)) edges
@@ -82,8 +83,8 @@ table-edge_changed pairs edges places i old new table inside read same_owner sam
       few_places = table.few_places;
       distinct = table.distinct;
       ends = kept edges i table.ends inside read;
-      from = λ p. table.from p ∙ ap (numbers_of p 0) (sym (ends-stay old new owner_of edges i inside read same_owner));
-      to = λ p. table.to p ∙ ap (numbers_of p 0) (sym (ends-stay old new target_of edges i inside read same_target));
+      from = λ p. table.from p ∙ sym (ends-same owner_of target_of refl edges (set edges i new) refl (ends-stay old new owner_of edges i inside read same_owner) (ends-stay old new target_of edges i inside read same_target) p);
+      to = λ p. table.to p ∙ sym (ends-same target_of owner_of refl edges (set edges i new) refl (ends-stay old new target_of edges i inside read same_target) (ends-stay old new owner_of edges i inside read same_owner) p);
     }
   where
     kept : (edges : List Edge) (i : ℕ) → AllByRecursion (IsInside (length places)) edges → i < length edges → old ≡ get_or edges i old → AllByRecursion (IsInside (length places)) (set edges i new)
@@ -94,7 +95,7 @@ table-edge_changed pairs edges places i old new table inside read same_owner sam
     kept (e ∷ edges) (suc i) all inside read = (all.0, kept edges i all.1 (omega arith) read)
 
 -- an edge is added, and listed at both ends
-pub table-edge_added : (pairs more : List (Actor × Actor)) (edges : List Edge) (places room : List PlaceEnds) (e : Edge) (n : ℕ) (v w v' w' : PlaceEnds) → IsTable pairs edges places → HaveSameLists places room → IsInside (length places) e → n ≡ length edges → length edges + 1 < 2 ^ 32 → IsDistinct same_pair more → length more ≡ length pairs + 1 → w ≡ get_or room e.owner w → v.from ≡ w.from ++ n ∷ [] → v.to ≡ w.to → w' ≡ get_or (set room e.owner v) e.target w' → v'.to ≡ w'.to ++ n ∷ [] → v'.from ≡ w'.from → IsTable more (edges ++ e ∷ []) (set (set room e.owner v) e.target v')
+pub table-edge_added : (pairs more : List (Actor × Actor)) (edges : List Edge) (places room : List PlaceEnds) (e : Edge) (n : ℕ) (v w v' w' : PlaceEnds) → IsTable pairs edges places → HaveSameLists places room → IsInside (length places) e → n ≡ length edges → length edges + 1 < 2 ^ 32 → IsDistinct same_pair more → length more ≡ length pairs + 1 → w ≡ get_or room e.owner w → v.from ≡ w.from ++ (e.target, n) ∷ [] → v.to ≡ w.to → w' ≡ get_or (set room e.owner v) e.target w' → v'.to ≡ w'.to ++ (e.owner, n) ∷ [] → v'.from ≡ w'.from → IsTable more (edges ++ e ∷ []) (set (set room e.owner v) e.target v')
 table-edge_added pairs more edges places room e n v w v' w' table same inside last few distinct one read pushed_from same_to read' pushed_to same_from =
     let middle = set room e.owner v in
     let long_room = same.long in
@@ -113,8 +114,8 @@ table-edge_added pairs more edges places room e n v w v' w' table same inside la
           (all-implied (IsInside (length places)) (IsInside (length (set middle e.target v'))) (λ x h. (omega arith, omega arith)) edges table.ends) (omega arith, omega arith);
       from = λ p.
           side-stays from_of middle e.target v' w' p target_middle read' same_from
-          ∙ edge-pushed from_of owner_of room edges e e.owner n v w (λ q. same.from q ∙ table.from q) owner_inside refl last read pushed_from p;
-      to = edge-pushed to_of target_of middle edges e e.target n v' w'
+          ∙ edge-pushed from_of owner_of target_of refl room edges e e.owner n v w (λ q. same.from q ∙ table.from q) owner_inside refl last read pushed_from p;
+      to = edge-pushed to_of target_of owner_of refl middle edges e e.target n v' w'
           (λ q. side-stays to_of room e.owner v w q owner_inside read same_to ∙ same.to q ∙ table.to q) target_middle refl last read' pushed_to;
     }
 
@@ -137,9 +138,9 @@ table-edge_removed pairs fewer edges all places e v w v' w' table is distinct on
       ends = all-implied (IsInside (length places)) (IsInside (length (set middle e.target v'))) (λ x h. (omega arith, omega arith)) edges parts.0;
       from = λ p.
           side-stays from_of middle e.target v' w' p target_middle read' same_from
-          ∙ edge-popped from_of owner_of places edges e e.owner v w (λ q. table.from q ∙ ap (λ es. numbers_of q 0 (map owner_of es)) is) here.0 refl read popped_from p;
-      to = edge-popped to_of target_of middle edges e e.target v' w'
-          (λ q. side-stays to_of places e.owner v w q here.0 read same_to ∙ table.to q ∙ ap (λ es. numbers_of q 0 (map target_of es)) is) target_middle refl read' popped_to;
+          ∙ edge-popped from_of owner_of target_of refl places edges e e.owner v w (λ q. table.from q ∙ ap (λ es. ends_from es q) is) here.0 refl read popped_from p;
+      to = edge-popped to_of target_of owner_of refl middle edges e e.target v' w'
+          (λ q. side-stays to_of places e.owner v w q here.0 read same_to ∙ table.to q ∙ ap (λ es. ends_to es q) is) target_middle refl read' popped_to;
     }
   where
     split : {X : Type 0} (P : X → Type 0) (xs : List X) (x : X) → AllByRecursion P (xs ++ x ∷ []) → AllByRecursion P xs × P x

@@ -1,10 +1,11 @@
 -- The edges of one place, by their numbers.
 use Rattle.std.specs.Prelude.{◌≡◌, ◌==◌, ◌+◌, ◌<◌, ℕ, cond, List, [], ◌∷◌, length, slice_index_or}
 
--- the edges that lead from a place and those that lead to it, and for how many more there is room
+-- the edges that lead from a place and those that lead to it, of each the place of its other end and its number, and for how many
+-- more there is room
 pub record PlaceEnds : Type 0 where
-  pub from : List ℕ
-  pub to : List ℕ
+  pub from : List (ℕ × ℕ)
+  pub to : List (ℕ × ℕ)
   pub from_room : ℕ
   pub to_room : ℕ
 

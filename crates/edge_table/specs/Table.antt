@@ -44,6 +44,17 @@ edges_from edges place = numbers_of place 0 (map (λ e. e.owner) edges)
 abbrev pub edges_to : List Edge → ℕ → List ℕ
 edges_to edges place = numbers_of place 0 (map (λ e. e.target) edges)
 
+-- each of these numbers, with the other end of its edge before it
+abbrev pub ends_of : (Edge → ℕ) → List Edge → List ℕ → List (ℕ × ℕ)
+ends_of other edges numbers = map (λ n. (other (slice_index_or edges n no_edge), n)) numbers
+
+-- the edges whose owner, and those whose target, has this place, of each the place of its other end and its number
+abbrev pub ends_from : List Edge → ℕ → List (ℕ × ℕ)
+ends_from edges place = ends_of (λ e. e.target) edges (edges_from edges place)
+
+abbrev pub ends_to : List Edge → ℕ → List (ℕ × ℕ)
+ends_to edges place = ends_of (λ e. e.owner) edges (edges_to edges place)
+
 -- whether more references were given along the edge than released
 abbrev pub is_positive : Edge → Bool
 is_positive e = nat_lt e.released e.given
@@ -52,10 +63,13 @@ is_positive e = nat_lt e.released e.given
 abbrev pub is_positive_at : List Edge → ℕ → Bool
 is_positive_at edges n = is_positive (slice_index_or edges n no_edge)
 
--- each positive edge that has this place at the end has one of these numbers, and each of them is that of an edge with this end
-pub record ArePositive (end : Edge → ℕ) (edges : List Edge) (place : ℕ) (numbers : List ℕ) : Type 0 where
-  pub all : (n : ℕ) → n < length edges → end (slice_index_or edges n no_edge) ≡ place → is_positive_at edges n ≡ true → IsAmong n numbers
-  pub alone : (n : ℕ) → IsAmong n numbers → (n < length edges) × (end (slice_index_or edges n no_edge) ≡ place)
+-- each positive edge that has this place at the end is one of these, and each of them is an edge with this end: the place of its
+-- other end and its number
+pub record ArePositive (end other : Edge → ℕ) (edges : List Edge) (place : ℕ) (ends : List (ℕ × ℕ)) : Type 0 where
+  pub all : (n : ℕ) → n < length edges → end (slice_index_or edges n no_edge) ≡ place → is_positive_at edges n ≡ true
+      → IsAmong (other (slice_index_or edges n no_edge), n) ends
+  pub alone : (p n : ℕ) → IsAmong (p, n) ends
+      → (n < length edges) × (end (slice_index_or edges n no_edge) ≡ place) × (other (slice_index_or edges n no_edge) ≡ p)
 
 -- the edge with this number is changed, and no other
 abbrev pub with_edge : Edges → ℕ → Edge → Edges
@@ -68,10 +82,10 @@ pub record IsTable (pairs : List (Actor × Actor)) (edges : List Edge) (places :
   pub few_places : length places < 2 ^ 32
   pub distinct : IsDistinct same_pair pairs
   pub ends : AllByRecursion (λ e. (e.owner < length places) × (e.target < length places)) edges
-  pub from : (p : ℕ) → (slice_index_or places p no_ends).from ≡ edges_from edges p
-  pub to : (p : ℕ) → (slice_index_or places p no_ends).to ≡ edges_to edges p
+  pub from : (p : ℕ) → (slice_index_or places p no_ends).from ≡ ends_from edges p
+  pub to : (p : ℕ) → (slice_index_or places p no_ends).to ≡ ends_to edges p
 
 -- what is kept of the places from which, and to which, many edges lead is right
 pub record ArePositiveKept (edges : List Edge) (owners targets : List (ℕ × Parted)) : Type 0 where
-  pub from : AreParted (edges_from edges) (is_positive_at edges) owners
-  pub to : AreParted (edges_to edges) (is_positive_at edges) targets
+  pub from : AreParted (ends_from edges) (is_positive_at edges) owners
+  pub to : AreParted (ends_to edges) (is_positive_at edges) targets

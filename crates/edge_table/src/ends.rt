@@ -7,13 +7,13 @@ use smallvec::SmallVec;
 use std::alloc::Global;
 use std::marker::Model;
 
-/// The numbers of the edges that lead from a place, and of those that lead to it, with reserved room for more. Few numbers stand
-/// in the value itself, and more than four of a list in an allocation. Contracts see both lists, and for how many more each has
-/// room.
+/// The edges that lead from a place, and those that lead to it, each by the place of its other end and its number, with reserved
+/// room for more. Up to three of a list stand in the value itself, and more in an allocation. Contracts see both lists, and for how
+/// many more each has room.
 #[derive(Drop)]
 pub struct Ends {
-    from: SmallVec<u32, 4>,
-    to: SmallVec<u32, 4>,
+    from: SmallVec<(u32, u32), 3>,
+    to: SmallVec<(u32, u32), 3>,
 }
 
 impl Model for Ends {
@@ -67,24 +67,24 @@ impl Ends {
         }
     }
 
-    /// The edge leads from the place, last of all. It takes no memory.
-    pub fn push_from(&mut self, number: u32)
+    /// The edge with this target and number leads from the place, last of all. It takes no memory.
+    pub fn push_from(&mut self, end: (u32, u32))
         requires { 0 < self.old.from_room }
-        ensures from { self.new.from ≡ self.old.from ++ number ∷ [] }
+        ensures from { self.new.from ≡ self.old.from ++ end ∷ [] }
         ensures to { self.new.to ≡ self.old.to }
         ensures others { self.new.to_room ≡ self.old.to_room }
     {
-        self.from.push_reserved(number);
+        self.from.push_reserved(end);
     }
 
-    /// The edge leads to the place, last of all. It takes no memory.
-    pub fn push_to(&mut self, number: u32)
+    /// The edge with this owner and number leads to the place, last of all. It takes no memory.
+    pub fn push_to(&mut self, end: (u32, u32))
         requires { 0 < self.old.to_room }
-        ensures to { self.new.to ≡ self.old.to ++ number ∷ [] }
+        ensures to { self.new.to ≡ self.old.to ++ end ∷ [] }
         ensures from { self.new.from ≡ self.old.from }
         ensures others { self.new.from_room ≡ self.old.from_room }
     {
-        self.to.push_reserved(number);
+        self.to.push_reserved(end);
     }
 
     /// The last edge from the place is taken away.
@@ -103,15 +103,15 @@ impl Ends {
         self.to.pop();
     }
 
-    /// The numbers of the edges from the place.
-    pub fn from(&self) -> &[u32]
+    /// The edges from the place: of each its target's place and its number.
+    pub fn from(&self) -> &[(u32, u32)]
         ensures { result.now ≡ self.now.from }
     {
         self.from.as_slice()
     }
 
-    /// The numbers of the edges to the place.
-    pub fn to(&self) -> &[u32]
+    /// The edges to the place: of each its owner's place and its number.
+    pub fn to(&self) -> &[(u32, u32)]
         ensures { result.now ≡ self.now.to }
     {
         self.to.as_slice()

@@ -1,35 +1,22 @@
 //! Edges that are looked for among the first of a list.
-ghost use Rattle.std.specs.Prelude.{◌<◌, ℕ, IfNone, IfSome, length, take};
-ghost use Rattle.std.specs.Bool.{Decides};
+ghost use Rattle.std.specs.Prelude.{ℕ, IfNone, IfSome, take};
 ghost use Rattle.crgc_ids.specs.Members.{IsAmong};
-ghost use Rattle.edge_table.specs.Table.{IsBetween};
 ghost use Rattle.edge_table.specs.declared.near.TheConstants.{NEAR};
-
-use crate::table::Edge;
 
 /// How many edges from a place, and how many to one, are looked at before the ordered map is.
 pub const NEAR: usize = 8;
 
-/// The number of an edge that leads from the one place to the other, if one of the first numbers of the list is. At most 8 looks
-/// at edges.
-pub fn number_near(edges: &[Edge], from: u32, to: u32, numbers: &[u32]) -> Option<u32>
-    requires { (n : ℕ) → IsAmong n numbers.now → n < length edges.now }
-    ensures number { IfSome result (λ n. IsBetween edges.now n from to) }
-    ensures none { IfNone result ((n : ℕ) → IsAmong n (take NEAR numbers.now) → IsBetween edges.now n from to → ⊥) }
+/// The number of an edge that has this place at the other end, if one of the first of the list has. At most 8 looks at the list,
+/// and none at an edge.
+pub fn number_near(ends: &[(u32, u32)], place: u32) -> Option<u32>
+    ensures number { IfSome result (λ n. IsAmong (place, n) ends.now) }
+    ensures none { IfNone result ((n : ℕ) → IsAmong (place, n) (take NEAR ends.now) → ⊥) }
 {
-    for i in 0..numbers.len().min(NEAR) {
-        if is_between(edges, numbers[i], from, to) {
-            return Some(numbers[i]);
+    for i in 0..ends.len().min(NEAR) {
+        let (other, number) = ends[i];
+        if other == place {
+            return Some(number);
         }
     }
     None
-}
-
-/// Whether the edge with this number leads from the one place to the other.
-fn is_between(edges: &[Edge], number: u32, from: u32, to: u32) -> bool
-    requires { number < length edges.now }
-    ensures { Decides result (IsBetween edges.now number from to) }
-{
-    let edge = edges[number as usize];
-    edge.owner == from && edge.target == to
 }

@@ -1,7 +1,7 @@
 //! The positive edges of places that have many edges.
 ghost use Rattle.std.specs.Prelude.{◌≡◌, ◌≢◌, ◌<◌, ◌^◌, ◌++◌, ℕ, Bool, List, true, false, None, Some, [], ◌∷◌, IfOk, IfSome, length, take};
 ghost use Rattle.crgc_ids.specs.Members.{IsAmong};
-ghost use Rattle.edge_table.specs.Partition.{AreRising, CountsAt, IsKeptOf, IsParted, Parted, kept_of};
+ghost use Rattle.edge_table.specs.Partition.{AreRising, CountsAt, IsKeptOf, IsParted, Parted, kept_of, numbers_in};
 ghost use Rattle.edge_table.specs.Table.{is_positive, is_positive_at};
 
 use crate::partition::Partition;
@@ -14,8 +14,8 @@ use std::marker::Model;
 /// How many edges a place may have at an end before its positive ones are kept apart.
 pub const MANY: usize = 128;
 
-/// For places that have more than 128 edges at one end, the numbers of these edges, the positive first. A place for which there was
-/// no memory is left out. Contracts see the places and what is kept of each.
+/// For places that have more than 128 edges at one end, these edges, the positive first, each by the place of its other end and its
+/// number. A place for which there was no memory is left out. Contracts see the places and what is kept of each.
 #[derive(Drop)]
 pub struct PositiveEdges {
     alloc: Global,
@@ -44,40 +44,40 @@ impl PositiveEdges {
 
     /// The place has these edges, the last of which is new and not positive. Where there is no memory for it, nothing is kept of the
     /// place. Amortized logarithmic time.
-    pub fn grow(&mut self, place: u32, numbers: &[u32], number: u32, edges: &[Edge])
-        requires rising { AreRising numbers.now }
-        requires few { length numbers.now < 2 ^ 32 }
-        requires within { (n : ℕ) → IsAmong n numbers.now → n < length edges.now }
-        requires free { is_positive_at edges.now number ≡ false }
-        requires kept { (before : List ℕ) × (numbers.now ≡ before ++ number ∷ [])
+    pub fn grow(&mut self, place: u32, ends: &[(u32, u32)], end: (u32, u32), edges: &[Edge])
+        requires rising { AreRising (numbers_in ends.now) }
+        requires few { length ends.now < 2 ^ 32 }
+        requires within { (n : ℕ) → IsAmong n (numbers_in ends.now) → n < length edges.now }
+        requires free { is_positive_at edges.now end.1 ≡ false }
+        requires kept { (before : List (ℕ × ℕ)) × (ends.now ≡ before ++ end ∷ [])
             × IsKeptOf before (is_positive_at edges.now) (kept_of self.old place) }
-        ensures kept { IsKeptOf numbers.now (is_positive_at edges.now) (kept_of self.new place) }
+        ensures kept { IsKeptOf ends.now (is_positive_at edges.now) (kept_of self.new place) }
         ensures others { (p : ℕ) → p ≢ place → kept_of self.new p ≡ kept_of self.old p }
     {
-        if numbers.len() <= MANY {
+        if ends.len() <= MANY {
             return;
         }
-        if self.push(place, number) {
+        if self.push(place, end) {
             return;
         }
-        if let Ok(partition) = partition_of(self.alloc, numbers, edges) {
+        if let Ok(partition) = partition_of(self.alloc, ends, edges) {
             self.keep(place, partition);
         }
     }
 
-    /// The number, which does not count, comes last in what is kept of the place. False where nothing is kept of it, or no longer,
+    /// The edge, which does not count, comes last in what is kept of the place. False where nothing is kept of it, or no longer,
     /// for want of memory.
-    fn push(&mut self, place: u32, number: u32) -> bool
-        requires { (before : List ℕ) × (counts : ℕ → Bool) × (length before < 2 ^ 32) × IsKeptOf before counts (kept_of self.old place) }
-        ensures pushed { result ≡ true → (before : List ℕ) (counts : ℕ → Bool) → counts number ≡ false
-            → IsKeptOf before counts (kept_of self.old place) → IsKeptOf (before ++ number ∷ []) counts (kept_of self.new place) }
+    fn push(&mut self, place: u32, end: (u32, u32)) -> bool
+        requires { (before : List (ℕ × ℕ)) × (counts : ℕ → Bool) × (length before < 2 ^ 32) × IsKeptOf before counts (kept_of self.old place) }
+        ensures pushed { result ≡ true → (before : List (ℕ × ℕ)) (counts : ℕ → Bool) → counts end.1 ≡ false
+            → IsKeptOf before counts (kept_of self.old place) → IsKeptOf (before ++ end ∷ []) counts (kept_of self.new place) }
         ensures none { result ≡ false → kept_of self.new place ≡ None }
         ensures others { (p : ℕ) → p ≢ place → kept_of self.new p ≡ kept_of self.old p }
     {
         let Some(partition) = self.places.get_mut(&place) else {
             return false;
         };
-        if partition.push(number).is_ok() {
+        if partition.push(end).is_ok() {
             return true;
         }
         self.forget(place);
@@ -102,28 +102,28 @@ impl PositiveEdges {
     }
 
     /// The edge with this number, which is one of these of the place, is positive from now on, or is not. Logarithmic time.
-    pub fn set(&mut self, place: u32, numbers: &[u32], number: u32, counts: bool)
-        requires rising { AreRising numbers.now }
-        requires among { IsAmong number numbers.now }
-        requires few { length numbers.now < 2 ^ 32 }
-        requires kept { (old : ℕ → Bool) × IsKeptOf numbers.now old (kept_of self.old place) }
-        ensures kept { (old new : ℕ → Bool) → CountsAt old new number counts → IsKeptOf numbers.now old (kept_of self.old place)
-            → IsKeptOf numbers.now new (kept_of self.new place) }
+    pub fn set(&mut self, place: u32, ends: &[(u32, u32)], number: u32, counts: bool)
+        requires rising { AreRising (numbers_in ends.now) }
+        requires among { IsAmong number (numbers_in ends.now) }
+        requires few { length ends.now < 2 ^ 32 }
+        requires kept { (old : ℕ → Bool) × IsKeptOf ends.now old (kept_of self.old place) }
+        ensures kept { (old new : ℕ → Bool) → CountsAt old new number counts → IsKeptOf ends.now old (kept_of self.old place)
+            → IsKeptOf ends.now new (kept_of self.new place) }
         ensures others { (p : ℕ) → p ≢ place → kept_of self.new p ≡ kept_of self.old p }
     {
-        if numbers.len() <= MANY {
+        if ends.len() <= MANY {
             return;
         }
         let Some(partition) = self.places.get_mut(&place) else {
             return;
         };
-        partition.set(numbers, number, counts);
+        partition.set(ends, number, counts);
     }
 
-    /// The numbers of the positive edges of the place; None where nothing is kept of it. Logarithmic time.
-    pub fn positive(&self, place: u32) -> Option<&[u32]>
-        requires { (numbers : List ℕ) × (counts : ℕ → Bool) × IsKeptOf numbers counts (kept_of self.now place) }
-        ensures { IfSome result (λ ns. (s : Parted) × (kept_of self.now place ≡ Some s) × (ns.now ≡ take s.front s.order)) }
+    /// The positive edges of the place; None where nothing is kept of it. Logarithmic time.
+    pub fn positive(&self, place: u32) -> Option<&[(u32, u32)]>
+        requires { (ends : List (ℕ × ℕ)) × (counts : ℕ → Bool) × IsKeptOf ends counts (kept_of self.now place) }
+        ensures { IfSome result (λ ends. (s : Parted) × (kept_of self.now place ≡ Some s) × (ends.now ≡ take s.front s.order)) }
     {
         match self.places.get(&place) {
             Some(partition) => Some(partition.front()),
@@ -139,29 +139,29 @@ pub fn is_positive(edge: Edge) -> bool
     edge.released < edge.given
 }
 
-/// The numbers, of which those of positive edges count. Time in proportion to n log n for n numbers.
-fn partition_of(alloc: Global, numbers: &[u32], edges: &[Edge]) -> Result<Partition, NoMemory>
-    requires rising { AreRising numbers.now }
-    requires few { length numbers.now < 2 ^ 32 }
-    requires within { (n : ℕ) → IsAmong n numbers.now → n < length edges.now }
-    ensures { IfOk result (λ s. IsParted numbers.now (is_positive_at edges.now) s) }
+/// The edges of the list, of which the positive count. Linear time.
+fn partition_of(alloc: Global, ends: &[(u32, u32)], edges: &[Edge]) -> Result<Partition, NoMemory>
+    requires rising { AreRising (numbers_in ends.now) }
+    requires few { length ends.now < 2 ^ 32 }
+    requires within { (n : ℕ) → IsAmong n (numbers_in ends.now) → n < length edges.now }
+    ensures { IfOk result (λ s. IsParted ends.now (is_positive_at edges.now) s) }
 {
-    let mut partition = partition_of_none(alloc, numbers)?;
-    for i in 0..numbers.len() {
-        let counts = is_positive(edges[numbers[i] as usize]);
-        partition.set(numbers, numbers[i], counts);
+    let mut partition = partition_of_none(alloc, ends)?;
+    for i in 0..ends.len() {
+        let counts = is_positive(edges[ends[i].1 as usize]);
+        partition.set_at(i, counts);
     }
     Ok(partition)
 }
 
-/// The numbers, of which none counts. Linear time.
-fn partition_of_none(alloc: Global, numbers: &[u32]) -> Result<Partition, NoMemory>
-    requires { length numbers.now < 2 ^ 32 }
-    ensures { IfOk result (λ s. IsParted numbers.now (λ n. false) s) }
+/// The edges of the list, of which none counts. Linear time.
+fn partition_of_none(alloc: Global, ends: &[(u32, u32)]) -> Result<Partition, NoMemory>
+    requires { length ends.now < 2 ^ 32 }
+    ensures { IfOk result (λ s. IsParted ends.now (λ n. false) s) }
 {
     let mut partition = Partition::new(alloc);
-    for i in 0..numbers.len() {
-        partition.push(numbers[i])?;
+    for i in 0..ends.len() {
+        partition.push(ends[i])?;
     }
     Ok(partition)
 }

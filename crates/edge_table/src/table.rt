@@ -4,7 +4,7 @@ ghost use Rattle.std.specs.Bool.{Decides};
 ghost use Rattle.std.specs.List.{IsDistinct};
 ghost use Rattle.edge_table.specs.Ends.{HasRoom, HaveSameLists};
 ghost use Rattle.edge_table.specs.declared.near.TheConstants.{NEAR};
-ghost use Rattle.edge_table.specs.Table.{ArePositive, HasEnds, edge_at, edges_from, edges_to, number_at, same_pair, with_edge};
+ghost use Rattle.edge_table.specs.Table.{ArePositive, HasEnds, edge_at, edges_from, edges_to, ends_from, ends_to, number_at, same_pair, with_edge};
 
 use crate::ends::Ends;
 use crate::near::{NEAR, number_near};
@@ -23,9 +23,9 @@ pub struct Edge {
     pub released: u64,
 }
 
-/// The edges between actors, numbered from 0 in the order in which they were added, and for each place the numbers of those
-/// that lead from it and to it, the positive ones once more where there are many. It keeps its allocator. Contracts see the pairs,
-/// the edges and how many places there are.
+/// The edges between actors, numbered from 0 in the order in which they were added, and for each place those that lead from it and
+/// to it, each by the place of its other end and its number, the positive ones once more where there are many. It keeps its
+/// allocator. Contracts see the pairs, the edges and how many places there are.
 #[derive(Drop)]
 pub struct EdgeTable {
     alloc: Global,
@@ -106,7 +106,7 @@ impl EdgeTable {
     }
 
     /// The number of the edge from the owner to the target, which have these places; None exactly where there is none. At most
-    /// 2 * 8 looks at edges, and where that does not tell, logarithmic time.
+    /// 2 * 8 looks at the lists of both places, and where that does not tell, logarithmic time.
     pub fn number_of(
         &self,
         owner: ActorId,
@@ -122,19 +122,18 @@ impl EdgeTable {
         ensures distinct { IsDistinct same_pair self.now.pairs }
         ensures long { length self.now.edges ≡ length self.now.pairs }
     {
-        let edges = self.edges.as_slice();
         let from = self.places[owner_place as usize].from();
         let to = self.places[target_place as usize].to();
         if to.len() < from.len() && to.len() <= NEAR {
-            return number_near(edges, owner_place, target_place, to);
+            return number_near(to, owner_place);
         }
-        if let Some(number) = number_near(edges, owner_place, target_place, from) {
+        if let Some(number) = number_near(from, target_place) {
             return Some(number);
         }
         if from.len() <= NEAR {
             return None;
         }
-        if let Some(number) = number_near(edges, owner_place, target_place, to) {
+        if let Some(number) = number_near(to, owner_place) {
             return Some(number);
         }
         self.pairs.number_mapped(owner, target)
@@ -179,13 +178,14 @@ impl EdgeTable {
             released: 0,
         });
         let number = number as u32;
-        self.places[from].push_from(number);
-        self.places[to].push_to(number);
+        let (leaves, comes) = ((target_place, number), (owner_place, number));
+        self.places[from].push_from(leaves);
+        self.places[to].push_to(comes);
         let edges = self.edges.as_slice();
         self.by_owner
-            .grow(owner_place, self.places[from].from(), number, edges);
+            .grow(owner_place, self.places[from].from(), leaves, edges);
         self.by_target
-            .grow(target_place, self.places[to].to(), number, edges);
+            .grow(target_place, self.places[to].to(), comes, edges);
         Ok(number)
     }
 
@@ -270,53 +270,53 @@ impl EdgeTable {
         self.by_target.set(edge.target, to, number, counts);
     }
 
-    /// The numbers of the edges from the place, rising.
-    pub fn edges_from(&self, place: u32) -> &[u32]
+    /// The edges from the place, of each the place of its target and its number. The numbers rise.
+    pub fn edges_from(&self, place: u32) -> &[(u32, u32)]
         requires { place < self.now.places }
-        ensures numbers { result.now ≡ edges_from self.now.edges place }
+        ensures ends { result.now ≡ ends_from self.now.edges place }
         ensures few { length result.now < 2 ^ 32 }
     {
         self.places[place as usize].from()
     }
 
-    /// The numbers of the edges to the place, rising.
-    pub fn edges_to(&self, place: u32) -> &[u32]
+    /// The edges to the place, of each the place of its owner and its number. The numbers rise.
+    pub fn edges_to(&self, place: u32) -> &[(u32, u32)]
         requires { place < self.now.places }
-        ensures numbers { result.now ≡ edges_to self.now.edges place }
+        ensures ends { result.now ≡ ends_to self.now.edges place }
         ensures few { length result.now < 2 ^ 32 }
     {
         self.places[place as usize].to()
     }
 
-    /// The numbers of the positive edges from the place, along which more references were given than released. If it has more than
-    /// 128 edges there is no other number, as long as there was memory to keep them apart; else there may be others of its edges.
-    /// Constant time, or logarithmic time where it has more than 128 edges.
-    pub fn positive_from(&self, place: u32) -> &[u32]
+    /// The positive edges from the place, along which more references were given than released, of each the place of its target and
+    /// its number. If the place has more than 128 edges there is no other, as long as there was memory to keep them apart; else there
+    /// may be others of its edges. Constant time, or logarithmic time where it has more than 128 edges.
+    pub fn positive_from(&self, place: u32) -> &[(u32, u32)]
         requires { place < self.now.places }
-        ensures { ArePositive (λ e. e.owner) self.now.edges place result.now }
+        ensures { ArePositive (λ e. e.owner) (λ e. e.target) self.now.edges place result.now }
     {
-        let numbers = self.edges_from(place);
-        if numbers.len() <= MANY {
-            return numbers;
+        let ends = self.edges_from(place);
+        if ends.len() <= MANY {
+            return ends;
         }
         match self.by_owner.positive(place) {
             Some(positive) => positive,
-            None => numbers,
+            None => ends,
         }
     }
 
-    /// The numbers of the positive edges to the place, as `positive_from` says it of those from it.
-    pub fn positive_to(&self, place: u32) -> &[u32]
+    /// The positive edges to the place, of each the place of its owner and its number, as `positive_from` says it of those from it.
+    pub fn positive_to(&self, place: u32) -> &[(u32, u32)]
         requires { place < self.now.places }
-        ensures { ArePositive (λ e. e.target) self.now.edges place result.now }
+        ensures { ArePositive (λ e. e.target) (λ e. e.owner) self.now.edges place result.now }
     {
-        let numbers = self.edges_to(place);
-        if numbers.len() <= MANY {
-            return numbers;
+        let ends = self.edges_to(place);
+        if ends.len() <= MANY {
+            return ends;
         }
         match self.by_target.positive(place) {
             Some(positive) => positive,
-            None => numbers,
+            None => ends,
         }
     }
 }

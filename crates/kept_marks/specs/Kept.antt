@@ -103,14 +103,6 @@ pub record HasRooms (k : Kept) : Type 0 where
   pub queued : length k.supports ≤ length k.queued
   pub fallen : length k.supports ≤ length k.fallen
 
--- the target of the edge, if it is positive, is in the set too where this is its support, and nothing else
-pub record AddsTarget (supports : List (Option ℕ)) (old new : List Bool) (step : Option (ℕ × ℕ)) (on : Option ℕ) : Type 0 where
-  pub room : length new ≡ length old
-  pub kept : (a : ℕ) → has_place old a ≡ true → has_place new a ≡ true
-  pub added : (b a : ℕ) → step ≡ Some (b, a) → support_of supports a ≡ on → has_place new a ≡ true
-  pub others : (a : ℕ) → has_place new a ≡ true
-      → (has_place old a ≡ true) ⊎ ((b : ℕ) × (step ≡ Some (b, a)) × (support_of supports a ≡ on))
-
 -- the targets of b with this support are in the set too, and nothing else
 pub record AddsTargets (g : Graph) (supports : List (Option ℕ)) (old new : List Bool) (b : ℕ) (on : Option ℕ) : Type 0 where
   pub room : length new ≡ length old

@@ -60,6 +60,14 @@ impl PlaceSet {
         }
     }
 
+    /// Whether the place is in the set.
+    pub fn has(&self, place: u32) -> bool
+        requires { place < length self.now }
+        ensures { result ≡ has_place self.now place }
+    {
+        self.flags[place as usize]
+    }
+
     /// The place is in the set. It takes no memory.
     pub fn put(&mut self, place: u32)
         requires { place < length self.old }

@@ -2,7 +2,7 @@
 ghost use Rattle.std.specs.Prelude.{◌≡◌, ◌⊎◌, ◌<◌, ◌≤◌, ◌↔◌, ℕ, true, None, Some, IfNone, IfSome, IsTrue, length};
 ghost use Rattle.place_marks.specs.Graph.{IsGraph, IsStep};
 ghost use Rattle.kept_marks.specs.PlaceSet.{has_place};
-ghost use Rattle.kept_marks.specs.Kept.{AddsTarget, AddsTargets, IsSupport, IsUnsupported, support_of};
+ghost use Rattle.kept_marks.specs.Kept.{AddsTargets, IsSupport, IsUnsupported, support_of};
 
 use crate::place_set::PlaceSet;
 use place_marks::PlaceGraph;
@@ -38,8 +38,8 @@ fn leads<G: PlaceGraph>(graph: &G, edge: u32, owner: u32, place: u32) -> bool
 }
 
 /// What can support the place, which is not marked: the place itself, if it is a start, or else the first owner that is marked
-/// and has a positive edge to it, beside the number of that edge; None exactly where nothing can. Linear time in the number of
-/// edges to the place.
+/// and has a positive edge to it, beside the number of that edge; None exactly where nothing can. It looks at those edges alone
+/// whose owners are marked. Linear time in the number of edges to the place.
 pub fn find_support<G: PlaceGraph>(
     graph: &G,
     supports: &[Option<u32>],
@@ -56,19 +56,18 @@ pub fn find_support<G: PlaceGraph>(
     if graph.is_start(place) {
         return Some((place, 0));
     }
-    let numbers = graph.edges_to(place);
-    for number in numbers {
-        if let Some((owner, _)) = graph.step(*number) {
-            if supports[owner as usize].is_some() {
-                return Some((owner, *number));
-            }
+    let ends = graph.edges_to(place);
+    for &(owner, number) in ends {
+        if supports[owner as usize].is_some() && graph.step(number).is_some() {
+            return Some((owner, number));
         }
     }
     None
 }
 
-/// The places to which positive edges lead from the place, and of which this is the support, are in the set too. Linear time
-/// in the number of edges from the place.
+/// The places to which positive edges lead from the place, and of which this is the support, are in the set too. It looks at
+/// those edges alone whose targets have this support and are not in the set yet. Linear time in the number of edges from the
+/// place.
 pub fn put_targets<G: PlaceGraph>(
     graph: &G,
     supports: &[Option<u32>],
@@ -82,28 +81,12 @@ pub fn put_targets<G: PlaceGraph>(
     requires place { place < (G.graph graph.now).places }
     ensures { AddsTargets (G.graph graph.now) supports.now set.old set.new place on }
 {
-    let numbers = graph.edges_from(place);
-    for number in numbers {
-        put_target(supports, set, graph.step(*number), on);
-    }
-}
-
-/// The target of the edge, if it is positive, is in the set too where this is its support.
-fn put_target(
-    supports: &[Option<u32>],
-    set: &mut PlaceSet,
-    step: Option<(u32, u32)>,
-    on: Option<u32>,
-)
-    requires within { IfSome step (λ s. s.1 < length supports.now) }
-    requires set { length supports.now ≤ length set.old }
-    ensures { AddsTarget supports.now set.old set.new step on }
-{
-    let Some((_, found)) = step else {
-        return;
-    };
-    if is_same(supports[found as usize], on) {
-        set.put(found);
+    let ends = graph.edges_from(place);
+    for &(target, number) in ends {
+        let hangs = is_same(supports[target as usize], on);
+        if hangs && !set.has(target) && graph.step(number).is_some() {
+            set.put(target);
+        }
     }
 }
 

@@ -30,12 +30,12 @@ impl PlaceGraph for Pair {
         if number == 0 { Some((0, 1)) } else { None }
     }
 
-    fn edges_from(&self, place: u32) -> &[u32] {
-        if place == 0 { &[0] } else { &[] }
+    fn edges_from(&self, place: u32) -> &[(u32, u32)] {
+        if place == 0 { &[(1, 0)] } else { &[] }
     }
 
-    fn edges_to(&self, place: u32) -> &[u32] {
-        if place == 1 { &[0] } else { &[] }
+    fn edges_to(&self, place: u32) -> &[(u32, u32)] {
+        if place == 1 { &[(0, 0)] } else { &[] }
     }
 }
 

@@ -1,4 +1,4 @@
-pub mod NumberLemmas
+pub mod EndLemmas
 pub mod OrderLemmas
 pub mod ReachLemmas
 pub mod RoundLemmas

@@ -1,5 +1,5 @@
 -- Rounds of marking: they mark what is reached, until one adds no mark.
-use Rattle.std.proofs.Common.{◌≡◌, ◌<◌, ◌≤◌, ◌+◌, ◌-◌, ◌++◌, cond, ℕ, suc, Bool, true, false, Option, None, Some, List, [], ◌∷◌, length, get_or, take, refl, sym, ◌∙◌, ap, subst, inl, inr, arith, length-append}
+use Rattle.std.proofs.Common.{◌≡◌, ◌<◌, ◌≤◌, ◌+◌, ◌-◌, ◌++◌, cond, ℕ, suc, Bool, true, false, Some, List, [], ◌∷◌, length, get_or, take, refl, sym, ◌∙◌, ap, subst, inl, inr, arith, length-append}
 use Rattle.std.proofs.Math.ListN.{get_or-append}
 use Rattle.std.proofs.Math.Seq.{get_or-append_right}
 use Rattle.std.proofs.lemmas.Bool.{cases_eq, cases_lt, false≢true}
@@ -7,10 +7,10 @@ use Rattle.std.proofs.lemmas.List.{get_or_past, get_or_push, get_or-take, length
 use Rattle.std.proofs.lemmas.List.Sums.{count_by_more_no, count_by_more_yes, sum_by-cons}
 use Rattle.std.specs.List.{count_by}
 use Rattle.crgc_ids.specs.Members.{IsAmong}
-use Rattle.place_marks.specs.Graph.{AreTo, Graph, IsGraph, IsReached, IsStep}
+use Rattle.place_marks.specs.Graph.{Graph, IsGraph, IsReached, IsStep}
 use Rattle.place_marks.specs.Marks.{IsOrdered}
-use Rattle.place_marks.specs.Rounds.{AddsMarks, AreReached, HasMarkedOwner, IsMarkedNext, IsRound, is_marked_owner}
-use Rattle.place_marks.proofs.NumberLemmas.{among-all, among-at, among-more}
+use Rattle.place_marks.specs.Rounds.{AddsMarks, AreReached, IsMarkedNext, IsRound}
+use Rattle.place_marks.proofs.EndLemmas.{among-more, end_at}
 use Rattle.place_marks.proofs.ReachLemmas.{reached-closed, reached-on, reached-start}
 
 -- a marked place is one of those in the row
@@ -22,27 +22,18 @@ marked-inside marks p marked = elim (cases_lt p (length marks)) [
 
 -- ---- the owners of a place
 
--- none of those that a loop over the numbers of edges went over leads from a marked place
-abbrev pub AreUnmarked : Graph → List Bool → List ℕ → Type 0
-AreUnmarked g marks numbers = (n : ℕ) → IsAmong n numbers → is_marked_owner marks (g.step n) ≡ false
+-- no positive edge to the place with one of these ends leads from a marked place
+abbrev pub AreUnmarked : Graph → List Bool → ℕ → List (ℕ × ℕ) → Type 0
+AreUnmarked g marks p ends = (b n : ℕ) → IsAmong (b, n) ends → g.step n ≡ Some (b, p) → get_or marks b false ≡ false
 
-pub unmarked-on : (g : Graph) (marks : List Bool) (numbers : List ℕ) (i : ℕ) (s : Option (ℕ × ℕ)) → i < length numbers → s ≡ g.step (get_or numbers i 0) → is_marked_owner marks s ≡ false → AreUnmarked g marks (take i numbers) → AreUnmarked g marks (take (i + 1) numbers)
-unmarked-on g marks numbers i s inside read free before n h = elim (among-more numbers i n inside h) [
-  | inl earlier ↦ before n earlier
-  | inr same ↦ ap (is_marked_owner marks) (ap g.step same ∙ sym read) ∙ free
+pub unmarked-on : (g : Graph) (marks : List Bool) (p : ℕ) (ends : List (ℕ × ℕ)) (i : ℕ) → i < length ends → (g.step (end_at ends i).1 ≡ Some ((end_at ends i).0, p) → get_or marks (end_at ends i).0 false ≡ false) → AreUnmarked g marks p (take i ends) → AreUnmarked g marks p (take (i + 1) ends)
+unmarked-on g marks p ends i inside free before b n h step = elim (among-more ends i (b, n) inside h) [
+  | inl earlier ↦ before b n earlier step
+  | inr same ↦ subst Free (sym same) free step
 ]
-
--- one of the numbers leads from a marked place
-pub owner-found : (g : Graph) (marks : List Bool) (numbers : List ℕ) (p i : ℕ) (s : Option (ℕ × ℕ)) → AreTo g p numbers → i < length numbers → s ≡ g.step (get_or numbers i 0) → is_marked_owner marks s ≡ true → HasMarkedOwner g marks p
-owner-found g marks numbers p i None to inside read marked = absurd (false≢true marked)
-owner-found g marks numbers p i (Some (b, a)) to inside read marked =
-    let same = to.alone (get_or numbers i 0) b a (among-at numbers i 0 inside) (sym read) in
-    (b, (get_or numbers i 0, sym read ∙ ap (λ (q : ℕ). Some (b, q)) same), marked)
-
--- where none does, no edge to the place does
-pub owner-none : (g : Graph) (marks : List Bool) (numbers : List ℕ) (p i : ℕ) → AreTo g p numbers → length numbers ≤ i → AreUnmarked g marks (take i numbers) → HasMarkedOwner g marks p → ⊥
-owner-none g marks numbers p i to all free (b, (n, step), marked) =
-    false≢true (sym (free n (among-all numbers i n all (to.all n b step))) ∙ ap (is_marked_owner marks) step ∙ marked)
+  where
+    Free : ℕ × ℕ → Type 0
+    Free e = g.step e.1 ≡ Some (e.0, p) → get_or marks e.0 false ≡ false
 
 -- ---- a round
 

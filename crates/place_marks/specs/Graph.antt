@@ -17,15 +17,19 @@ IsStep g b a = (n : ℕ) × (g.step n ≡ Some (b, a))
 abbrev pub IsGraph : Graph → Type 0
 IsGraph g = (b a : ℕ) → IsStep g b a → (b < g.places) × (a < g.places)
 
--- each positive edge from b has one of these numbers, and those of them that are positive lead from b
-pub record AreFrom (g : Graph) (b : ℕ) (numbers : List ℕ) : Type 0 where
-  pub all : (n a : ℕ) → g.step n ≡ Some (b, a) → IsAmong n numbers
-  pub alone : (n c a : ℕ) → IsAmong n numbers → g.step n ≡ Some (c, a) → c ≡ b
+-- each positive edge from b is among these pairs of the place of its target and its number; those of them whose edge is positive
+-- lead from b to the place told; and each tells a place
+pub record AreFrom (g : Graph) (b : ℕ) (ends : List (ℕ × ℕ)) : Type 0 where
+  pub all : (n a : ℕ) → g.step n ≡ Some (b, a) → IsAmong (a, n) ends
+  pub alone : (a n c d : ℕ) → IsAmong (a, n) ends → g.step n ≡ Some (c, d) → (c ≡ b) × (d ≡ a)
+  pub within : (a n : ℕ) → IsAmong (a, n) ends → a < g.places
 
--- each positive edge to a has one of these numbers, and those of them that are positive lead to a
-pub record AreTo (g : Graph) (a : ℕ) (numbers : List ℕ) : Type 0 where
-  pub all : (n b : ℕ) → g.step n ≡ Some (b, a) → IsAmong n numbers
-  pub alone : (n b c : ℕ) → IsAmong n numbers → g.step n ≡ Some (b, c) → c ≡ a
+-- each positive edge to a is among these pairs of the place of its owner and its number; those of them whose edge is positive
+-- lead from the place told to a; and each tells a place
+pub record AreTo (g : Graph) (a : ℕ) (ends : List (ℕ × ℕ)) : Type 0 where
+  pub all : (n b : ℕ) → g.step n ≡ Some (b, a) → IsAmong (b, n) ends
+  pub alone : (b n c d : ℕ) → IsAmong (b, n) ends → g.step n ≡ Some (c, d) → (c ≡ b) × (d ≡ a)
+  pub within : (b n : ℕ) → IsAmong (b, n) ends → b < g.places
 
 -- from r over the places of the list, each with a positive edge to the next, the last to a
 abbrev pub IsChain : Graph → ℕ → List ℕ → ℕ → Type 0

@@ -1,12 +1,7 @@
 -- Marks after one round more, each decided from those before it.
-use Rattle.std.specs.Prelude.{ℕ, ◌≡◌, ◌⊎◌, ◌<◌, ◌↔◌, Bool, true, false, List, Option, None, Some, count_by, length, slice_index_or}
+use Rattle.std.specs.Prelude.{ℕ, ◌≡◌, ◌⊎◌, ◌<◌, ◌↔◌, Bool, true, false, List, count_by, length, slice_index_or}
 use Rattle.std.specs.Bool.{Decides}
 use Rattle.place_marks.specs.Graph.{Graph, IsReached, IsStep}
-
--- whether the edge leads from a marked place; one that is not positive does not
-abbrev pub is_marked_owner : List Bool → Option (ℕ × ℕ) → Bool
-is_marked_owner marks None = false
-is_marked_owner marks (Some (b, a)) = slice_index_or marks b false
 
 -- a positive edge leads to the place from a marked one
 abbrev pub HasMarkedOwner : Graph → List Bool → ℕ → Type 0

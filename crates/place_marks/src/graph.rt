@@ -22,13 +22,15 @@ pub trait PlaceGraph {
     fn step(&self, number: u32) -> Option<(u32, u32)>
         ensures { result ≡ (graph self.now).step number };
 
-    /// The numbers of the positive edges from the place; there may be others of its edges among them.
-    fn edges_from(&self, place: u32) -> &[u32]
+    /// The positive edges from the place, each as the place of its target and its number; there may be others of its edges among
+    /// them.
+    fn edges_from(&self, place: u32) -> &[(u32, u32)]
         requires { place < (graph self.now).places }
         ensures { AreFrom (graph self.now) place result.now };
 
-    /// The numbers of the positive edges to the place; there may be others of its edges among them.
-    fn edges_to(&self, place: u32) -> &[u32]
+    /// The positive edges to the place, each as the place of its owner and its number; there may be others of its edges among
+    /// them.
+    fn edges_to(&self, place: u32) -> &[(u32, u32)]
         requires { place < (graph self.now).places }
         ensures { AreTo (graph self.now) place result.now };
 }

@@ -190,16 +190,17 @@ fn spread<G: PlaceGraph>(graph: &G, marks: &mut Marks)
     }
 }
 
-/// The places to which positive edges lead from this one are marked too.
+/// The places to which positive edges lead from this one are marked too. It looks at those edges alone whose targets are not
+/// marked yet.
 fn mark_targets<G: PlaceGraph>(graph: &G, marks: &mut Marks, place: u32)
     requires room { (G.graph graph.now).places ≤ length marks.old.marks }
     requires whole { IsGraph (G.graph graph.now) }
     requires place { place < (G.graph graph.now).places }
     ensures { MarksTargets (G.graph graph.now) marks.old marks.new place }
 {
-    let numbers = graph.edges_from(place);
-    for number in numbers {
-        if let Some((_, target)) = graph.step(*number) {
+    let ends = graph.edges_from(place);
+    for &(target, number) in ends {
+        if !marks.is_marked(target) && graph.step(number).is_some() {
             marks.put(target);
         }
     }

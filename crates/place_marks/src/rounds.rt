@@ -3,7 +3,7 @@ ghost use Rattle.std.specs.Prelude.{◌≡◌, ◌+◌, ◌<◌, ◌≤◌, ℕ,
 ghost use Rattle.std.specs.Bool.{Decides};
 ghost use Rattle.place_marks.specs.Graph.{IsGraph};
 ghost use Rattle.place_marks.specs.Marks.{IsOrdered};
-ghost use Rattle.place_marks.specs.Rounds.{AddsMarks, AreReached, HasMarkedOwner, IsMarkedNext, IsRound, is_marked_owner};
+ghost use Rattle.place_marks.specs.Rounds.{AddsMarks, AreReached, HasMarkedOwner, IsMarkedNext, IsRound};
 
 use crate::graph::PlaceGraph;
 use std::thread;
@@ -97,29 +97,19 @@ fn is_marked_next<G: PlaceGraph>(graph: &G, before: &[bool], place: u32) -> bool
     before[place as usize] || graph.is_start(place) || has_marked_owner(graph, before, place)
 }
 
-/// Whether a positive edge leads to the place from a marked one.
+/// Whether a positive edge leads to the place from a marked one. It looks at those edges alone whose owners are marked.
 fn has_marked_owner<G: PlaceGraph>(graph: &G, marks: &[bool], place: u32) -> bool
     requires place { place < (G.graph graph.now).places }
     requires marks { length marks.now ≡ (G.graph graph.now).places }
     ensures { Decides result (HasMarkedOwner (G.graph graph.now) marks.now place) }
 {
-    let numbers = graph.edges_to(place);
-    for number in numbers {
-        if is_marked_owner(marks, graph.step(*number)) {
+    let ends = graph.edges_to(place);
+    for &(owner, number) in ends {
+        if is_marked(marks, owner) && graph.step(number).is_some() {
             return true;
         }
     }
     false
-}
-
-/// Whether the edge leads from a marked place.
-fn is_marked_owner(marks: &[bool], step: Option<(u32, u32)>) -> bool
-    ensures { result ≡ is_marked_owner marks.now step }
-{
-    match step {
-        Some((owner, _)) => is_marked(marks, owner),
-        None => false,
-    }
 }
 
 /// Whether the place is marked.

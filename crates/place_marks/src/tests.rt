@@ -30,18 +30,18 @@ impl PlaceGraph for Row {
         if number == 0 { Some((0, 1)) } else { None }
     }
 
-    fn edges_from(&self, place: u32) -> &[u32] {
+    fn edges_from(&self, place: u32) -> &[(u32, u32)] {
         match place {
-            0 => &[0],
-            1 => &[1],
+            0 => &[(1, 0)],
+            1 => &[(2, 1)],
             _ => &[],
         }
     }
 
-    fn edges_to(&self, place: u32) -> &[u32] {
+    fn edges_to(&self, place: u32) -> &[(u32, u32)] {
         match place {
-            1 => &[0],
-            2 => &[1],
+            1 => &[(0, 0)],
+            2 => &[(1, 1)],
             _ => &[],
         }
     }

@@ -2,6 +2,7 @@
 use Rattle.std.proofs.Common.{◌≡◌, ◌<◌, ◌↔◌, ◌&&◌, ◌⊎◌, not, ℕ, Bool, true, false, cond, List, Some, None, length, nat_lt, refl, sym, ◌∙◌, ap, subst, inl, inr}
 use Rattle.std.proofs.lemmas.Bool.{false≢true, lt-ltb, ltb-true}
 use Rattle.crgc_ids.specs.Actor.{Actor}
+use Rattle.crgc_ids.specs.Members.{IsAmong}
 use Rattle.edge_table.specs.Table.{ArePositive, edge_at, is_positive, no_edge}
 use Rattle.edge_table.specs.declared.table.Edge.{Edge}
 use Rattle.place_marks.specs.Graph.{AreFrom, AreTo, IsGraph, IsStep}
@@ -113,14 +114,28 @@ leads-step g placed p k in_p in_k r is = (
 )
 
 -- the positive edges at a place are those that marks may go along
-pub are-from : (g : Graph) → ArePlaced g → (b : ℕ) (numbers : List ℕ) → ArePositive (λ e. e.owner) g.edges.edges b numbers → AreFrom (place_graph g) b numbers
-are-from g placed b numbers are = record {
-  all = λ n a step. (let goes = along g n b a step in are.all n goes.inside goes.owner (along-positive g placed n b a goes));
-  alone = λ n c a among step. sym (along g n c a step).owner ∙ (are.alone n among).1;
+pub are-from : (g : Graph) → ArePlaced g → (b : ℕ) (ends : List (ℕ × ℕ)) → ArePositive (λ e. e.owner) (λ e. e.target) g.edges.edges b ends → AreFrom (place_graph g) b ends
+are-from g placed b ends are = record {
+  all = λ n a step. (
+      let goes = along g n b a step in
+      subst (λ k. IsAmong (k, n) ends) goes.target (are.all n goes.inside goes.owner (along-positive g placed n b a goes))
+      );
+  alone = λ a n c d among step. (
+      let goes = along g n c d step in
+      let is = are.alone a n among in (sym goes.owner ∙ is.1, sym goes.target ∙ is.2)
+      );
+  within = λ a n among. (let is = are.alone a n among in subst (λ k. k < length g.shadows.names) is.2 (placed.numbered n is.0).1);
 }
 
-pub are-to : (g : Graph) → ArePlaced g → (a : ℕ) (numbers : List ℕ) → ArePositive (λ e. e.target) g.edges.edges a numbers → AreTo (place_graph g) a numbers
-are-to g placed a numbers are = record {
-  all = λ n b step. (let goes = along g n b a step in are.all n goes.inside goes.target (along-positive g placed n b a goes));
-  alone = λ n b c among step. sym (along g n b c step).target ∙ (are.alone n among).1;
+pub are-to : (g : Graph) → ArePlaced g → (a : ℕ) (ends : List (ℕ × ℕ)) → ArePositive (λ e. e.target) (λ e. e.owner) g.edges.edges a ends → AreTo (place_graph g) a ends
+are-to g placed a ends are = record {
+  all = λ n b step. (
+      let goes = along g n b a step in
+      subst (λ k. IsAmong (k, n) ends) goes.owner (are.all n goes.inside goes.target (along-positive g placed n b a goes))
+      );
+  alone = λ b n c d among step. (
+      let goes = along g n c d step in
+      let is = are.alone b n among in (sym goes.owner ∙ is.2, sym goes.target ∙ is.1)
+      );
+  within = λ b n among. (let is = are.alone b n among in subst (λ k. k < length g.shadows.names) is.2 (placed.numbered n is.0).0);
 }

@@ -57,12 +57,12 @@ impl<'a> PlaceGraph for Trace<'a> {
         }
     }
 
-    fn edges_from(&self, place: u32) -> &[u32] {
+    fn edges_from(&self, place: u32) -> &[(u32, u32)] {
         let _places = self.graph.place_count();
         self.graph.positive_from(place)
     }
 
-    fn edges_to(&self, place: u32) -> &[u32] {
+    fn edges_to(&self, place: u32) -> &[(u32, u32)] {
         let _places = self.graph.place_count();
         self.graph.positive_to(place)
     }

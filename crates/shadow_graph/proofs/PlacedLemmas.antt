@@ -2,6 +2,7 @@
 use Rattle.std.proofs.Common.{◌≡◌, ◌<◌, ◌||◌, ◌-ℤ◌, ℕ, ℤ, SFits, of_z, pos, to_z, w64, zero, suc, Bool, true, false, cond, List, [], ◌∷◌, length, get_or, map, refl, sym, ◌∙◌, ap, subst, inl, inr, arith}
 use Rattle.std.proofs.lemmas.Bool.{eq-eqb, eqb-true, false_from_ne_true, false≢true}
 use Rattle.std.proofs.lemmas.Int.{to_z-of_z}
+use Rattle.std.proofs.lemmas.List.{get_or-map, length-map}
 use Rattle.std.proofs.lemmas.List.Sums.{position_or_len_is}
 use Rattle.std.proofs.lemmas.Map.Keys.{apart_from_distinct}
 use Rattle.std.specs.Bool.{Decides}
@@ -12,7 +13,8 @@ use Rattle.crgc_ids.proofs.MembersLaws.{IsAmong-from_filter, all-from_members, a
 use Rattle.crgc_ids.specs.Actor.{Actor, same_actor}
 use Rattle.crgc_ids.specs.Members.{IsAmong}
 use Rattle.edge_table.proofs.ListedLemmas.{listed, numbers-distinct}
-use Rattle.edge_table.specs.Table.{Edges, edge_at, edges_from, edges_to, no_edge, same_pair}
+use Rattle.edge_table.proofs.EndsLemmas.{ends-long}
+use Rattle.edge_table.specs.Table.{Edges, edge_at, edges_from, edges_to, ends_from, ends_of, ends_to, no_edge, same_pair}
 use Rattle.edge_table.specs.declared.table.Edge.{Edge}
 use Rattle.shadow_table.proofs.KeyedLemmas.{key-at, place-within}
 use Rattle.shadow_table.specs.Shadows.{Shadows, blank, is_named, place_in, shadow_at}
@@ -206,11 +208,30 @@ abbrev target_of : Edge → ℕ
 target_of e = e.target
 
 -- an edge that is listed at a place leads from it, or to it
-pub from-at : (edges : List Edge) (p i : ℕ) (ns : List ℕ) → ns ≡ edges_from edges p → i < length ns → (get_or ns i 0 < length edges) × ((get_or edges (get_or ns i 0) no_edge).owner ≡ p)
-from-at edges p i ns is inside = (listed owner_of refl edges p (get_or ns i 0)).0 (subst (IsAmong (get_or ns i 0)) is (among-at ns i 0 inside))
+pub from-at : (edges : List Edge) (p i : ℕ) (ends : List (ℕ × ℕ)) → ends ≡ ends_from edges p → i < length ends
+    → (let n = (get_or ends i (0, 0)).1 in (n < length edges) × ((get_or edges n no_edge).owner ≡ p))
+from-at edges p i ends is inside =
+    let found = among-from_map (λ n. ((get_or edges n no_edge).target, n)) (get_or ends i (0, 0)) (edges_from edges p) (subst (IsAmong (get_or ends i (0, 0))) is (among-at ends i (0, 0) inside)) in
+    (listed owner_of refl edges p (get_or ends i (0, 0)).1).0 (subst (λ n. IsAmong n (edges_from edges p)) (sym (ap (λ (e : ℕ × ℕ). e.1) found.2)) found.1)
 
-pub to-at : (edges : List Edge) (p i : ℕ) (ns : List ℕ) → ns ≡ edges_to edges p → i < length ns → (get_or ns i 0 < length edges) × ((get_or edges (get_or ns i 0) no_edge).target ≡ p)
-to-at edges p i ns is inside = (listed target_of refl edges p (get_or ns i 0)).0 (subst (IsAmong (get_or ns i 0)) is (among-at ns i 0 inside))
+pub to-at : (edges : List Edge) (p i : ℕ) (ends : List (ℕ × ℕ)) → ends ≡ ends_to edges p → i < length ends
+    → (let n = (get_or ends i (0, 0)).1 in (n < length edges) × ((get_or edges n no_edge).target ≡ p))
+to-at edges p i ends is inside =
+    let found = among-from_map (λ n. ((get_or edges n no_edge).owner, n)) (get_or ends i (0, 0)) (edges_to edges p) (subst (IsAmong (get_or ends i (0, 0))) is (among-at ends i (0, 0) inside)) in
+    (listed target_of refl edges p (get_or ends i (0, 0)).1).0 (subst (λ n. IsAmong n (edges_to edges p)) (sym (ap (λ (e : ℕ × ℕ). e.1) found.2)) found.1)
+
+-- an index of the list of the targets, or of the owners, is one of the list of ends, and the edge whose number is there has that
+-- target, or owner
+module _ (other : Edge → ℕ) (edges : List Edge) (ns : List ℕ) (ends : List (ℕ × ℕ)) (is : ends ≡ ends_of other edges ns) where
+  pub inside-ends : (i : ℕ) → i < length (map (λ n. other (get_or edges n no_edge)) ns) → i < length ends
+  inside-ends i inside = subst (λ n. i < n) (length-map ns (λ n. other (get_or edges n no_edge)) ∙ sym (ends-long other edges ns) ∙ sym (ap length is)) inside
+
+  pub end-at : (i : ℕ) → i < length ends → get_or (map (λ n. other (get_or edges n no_edge)) ns) i 0 ≡ other (get_or edges (get_or ends i (0, 0)).1 no_edge)
+  end-at i inside =
+      let long = ap length is ∙ ends-long other edges ns in
+      let number = ap (λ (es : List (ℕ × ℕ)). (get_or es i (0, 0)).1) is
+      ∙ ap (λ (e : ℕ × ℕ). e.1) (get_or-map (λ n. (other (get_or edges n no_edge), n)) ns i 0 (0, 0) (omega arith)) in
+      get_or-map (λ n. other (get_or edges n no_edge)) ns i 0 0 (omega arith) ∙ ap (λ n. other (get_or edges n no_edge)) (sym number)
 
 -- the shadow of the actor at a place
 pub shadow-there : (t : Shadows) (k : ℕ) → IsDistinct same_actor t.names → k < length t.names → shadow_at t (name_at t.names k) ≡ get_or t.shadows k blank

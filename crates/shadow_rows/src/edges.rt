@@ -11,7 +11,7 @@ use crgc_ids::{ActorId, PairCount};
 use edge_table::EdgeTable;
 use shadow_table::ShadowTable;
 
-/// The number of the edge from the owner to the target; None exactly where there is none. At most 2 * 8 looks at edges, and where
+/// The number of the edge from the owner to the target; None exactly where there is none. At most 2 * 8 looks at lists, and where
 /// that does not tell, logarithmic time.
 pub fn number_of(
     shadows: &ShadowTable,

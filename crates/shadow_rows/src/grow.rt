@@ -21,7 +21,7 @@ pub struct RowNumbers {
     pub released: Vec<u32>,
 }
 
-/// The edge between the actors is there, and this is its number. After `NoMemory` all is as before. At most 2 * 8 looks at edges,
+/// The edge between the actors is there, and this is its number. After `NoMemory` all is as before. At most 2 * 8 looks at lists,
 /// and where that does not tell, logarithmic time; amortized.
 fn add_pair(
     edges: &mut EdgeTable,
@@ -64,7 +64,7 @@ fn place_after(shadows: &ShadowTable, last: Option<(ActorId, u32)>, actor: Actor
 }
 
 /// The edges between the actors of the rows are there, and these are their numbers. After `NoMemory` some of them may be. For
-/// each row at most 2 * 8 looks at edges, and where that does not tell, time logarithmic in their number; amortized.
+/// each row at most 2 * 8 looks at lists, and where that does not tell, time logarithmic in their number; amortized.
 pub fn add_pairs(
     alloc: Global,
     edges: &mut EdgeTable,

@@ -27,7 +27,7 @@ fn take_back_messages(shadows: &mut ShadowTable, rows: &[ActorCount])
     }
 }
 
-/// The references that the rows count are taken back, of those that were given. For each row at most 2 * 8 looks at edges, and
+/// The references that the rows count are taken back, of those that were given. For each row at most 2 * 8 looks at lists, and
 /// where that does not tell, time logarithmic in their number.
 fn take_back_pairs(shadows: &ShadowTable, edges: &mut EdgeTable, rows: &[PairCount])
     requires tabled { AreTabled shadows.now.names edges.old }
@@ -39,7 +39,7 @@ fn take_back_pairs(shadows: &ShadowTable, edges: &mut EdgeTable, rows: &[PairCou
     }
 }
 
-/// The references that the rows count are given. For each row at most 2 * 8 looks at edges, and where that does not tell, time
+/// The references that the rows count are given. For each row at most 2 * 8 looks at lists, and where that does not tell, time
 /// logarithmic in their number.
 fn put_in_pairs(shadows: &ShadowTable, edges: &mut EdgeTable, rows: &[PairCount])
     requires tabled { AreTabled shadows.now.names edges.old }

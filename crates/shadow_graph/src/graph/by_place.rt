@@ -41,7 +41,7 @@ impl ShadowGraph {
         ensures value { let e = seen_edge self.now (actor_of self.now place) (actor_of self.now result.0) in
             result.1 ≡ pos e.given -ℤ pos e.released }
     {
-        let number = self.edges.edges_from(place)[index as usize];
+        let (_, number) = self.edges.edges_from(place)[index as usize];
         let edge = self.numbered(number);
         (edge.target, self.value(edge.target, edge))
     }
@@ -64,26 +64,26 @@ impl ShadowGraph {
         ensures value { let e = seen_edge self.now (actor_of self.now result.0) (actor_of self.now place) in
             result.1 ≡ pos e.given -ℤ pos e.released }
     {
-        let number = self.edges.edges_to(place)[index as usize];
+        let (_, number) = self.edges.edges_to(place)[index as usize];
         let edge = self.numbered(number);
         (edge.owner, self.value(edge.target, edge))
     }
 
-    /// The numbers of the positive edges from the actor at the place, along which more references were given than released, whether
-    /// the target was dropped or not; there may be others of its edges among them, as `EdgeTable::positive_from` says. Constant time,
-    /// or logarithmic time where more than 128 edges lead from it.
-    pub fn positive_from(&self, place: u32) -> &[u32]
+    /// The positive edges from the actor at the place, along which more references were given than released, whether the target was
+    /// dropped or not: the place of the target and the number of each. There may be others of its edges among them, as
+    /// `EdgeTable::positive_from` says. Constant time, or logarithmic time where more than 128 edges lead from it.
+    pub fn positive_from(&self, place: u32) -> &[(u32, u32)]
         requires { place < length self.now.shadows.names }
-        ensures { ArePositive (λ e. e.owner) self.now.edges.edges place result.now }
+        ensures { ArePositive (λ e. e.owner) (λ e. e.target) self.now.edges.edges place result.now }
     {
         self.edges.positive_from(place)
     }
 
-    /// The numbers of the positive edges to the actor at the place, whether it was dropped or not, as `positive_from` says it of
-    /// those from it.
-    pub fn positive_to(&self, place: u32) -> &[u32]
+    /// The positive edges to the actor at the place, whether it was dropped or not: the place of the owner and the number of each, as
+    /// `positive_from` says it of those from it.
+    pub fn positive_to(&self, place: u32) -> &[(u32, u32)]
         requires { place < length self.now.shadows.names }
-        ensures { ArePositive (λ e. e.target) self.now.edges.edges place result.now }
+        ensures { ArePositive (λ e. e.target) (λ e. e.owner) self.now.edges.edges place result.now }
     {
         self.edges.positive_to(place)
     }

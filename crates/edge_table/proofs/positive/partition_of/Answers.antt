@@ -1,24 +1,34 @@
-use Rattle.std.proofs.Common.{◌≡◌, ◌+◌, ◌∙◌, ap, subst, sym}
+use Rattle.std.proofs.Common.{◌≡◌, ◌<◌, ◌+◌, ◌∙◌, ap, arith, length, subst, sym}
 use Rattle.std.proofs.lemmas.List.{get_or_default}
-use Rattle.edge_table.specs.Partition.{CountsAt, nth_of}
+use Rattle.edge_table.specs.Partition.{CountsAt, nth_end, nth_of, numbers_in}
 use Rattle.edge_table.specs.Table.{is_positive, is_positive_at, no_edge}
 use Rattle.edge_table.proofs.IndexLemmas.{among-at}
-use Rattle.edge_table.proofs.PartitionLemmas.{so_far, so-far-more}
+use Rattle.edge_table.proofs.PartitionLemmas.{nth-number, numbers-long, so_far, so-far-more}
 use Rattle.edge_table.proofs.positive.partition_of.Goals as goal
 
-pub bounds-edges-numbers : goal.bounds-edges-numbers
-bounds-edges-numbers c = c.requires.within _ (among-at c.args.numbers.now c.loop-i.i 0 c.loop-i-test.true)
+pub bounds-edges-ends : goal.bounds-edges-ends
+bounds-edges-ends c =
+    let ends = c.args.ends.now in
+    let i = c.loop-i.i in
+    let long = numbers-long ends in
+    let test = c.loop-i-test.true in
+    subst (λ n. n < length c.args.edges.now) (nth-number ends i) (c.requires.within (nth_of (numbers_in ends) i) (among-at (numbers_in ends) i 0 (omega arith)))
 
-pub set-requires-clause-among : goal.set-requires-clause-among
-set-requires-clause-among c = among-at c.args.numbers.now c.loop-i.i 0 c.loop-i-test.true
+pub set_at-requires-clause-place : goal.set_at-requires-clause-place
+set_at-requires-clause-place c = (let long = c.loop-i.invariant.long in let test = c.loop-i-test.true in omega arith)
 
 pub loop-i-preserved : goal.loop-i-preserved
 loop-i-preserved c =
-    let numbers = c.args.numbers.now in
+    let ends = c.args.ends.now in
     let edges = c.args.edges.now in
+    let numbers = numbers_in ends in
     let i = c.loop-i.i in
-    let inside = c.requires.within _ (among-at numbers i 0 c.loop-i-test.true) in
-    let is : is_positive_at edges (nth_of numbers i) ≡ c.is_positive-counts.result = ap is_positive (get_or_default edges (nth_of numbers i) no_edge _ inside) ∙ sym c.is_positive-counts.ensures in
-    c.set.ensures (so_far (is_positive_at edges) numbers i) (so_far (is_positive_at edges) numbers (i + 1)) c.loop-i.invariant
+    let long = numbers-long ends in
+    let test = c.loop-i-test.true in
+    let inside : nth_of numbers i < length edges = c.requires.within (nth_of numbers i) (among-at numbers i 0 (omega arith)) in
+    let number = nth-number ends i in
+    let is : is_positive_at edges (nth_of numbers i) ≡ c.is_positive-counts.result = ap (is_positive_at edges) number
+    ∙ ap is_positive (get_or_default edges (nth_end ends i).1 no_edge _ (subst (λ n. n < length edges) number inside)) ∙ sym c.is_positive-counts.ensures in
+    c.set_at.ensures ends (so_far (is_positive_at edges) numbers i) (so_far (is_positive_at edges) numbers (i + 1)) c.requires.rising c.loop-i.invariant
     (subst (CountsAt (so_far (is_positive_at edges) numbers i) (so_far (is_positive_at edges) numbers (i + 1)) (nth_of numbers i)) is
-    (so-far-more (is_positive_at edges) numbers i c.loop-i-test.true))
+    (so-far-more (is_positive_at edges) numbers i (omega arith)))

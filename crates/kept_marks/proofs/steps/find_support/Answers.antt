@@ -1,37 +1,42 @@
-use Rattle.std.proofs.Common.{◌≡◌, ◌∙◌, ℕ, Option, true, false, arith, inr, subst, sym}
-use Rattle.std.specs.Option.{IfSome}
+use Rattle.std.proofs.Common.{◌≡◌, ◌∙◌, ap, true, arith, inr, sym}
+use Rattle.std.proofs.lemmas.Bool.{false≢true}
+use Rattle.std.specs.Option.{is_some}
+use Rattle.place_marks.proofs.EndLemmas.{among-at, end_at, positive-step}
 use Rattle.kept_marks.specs.Kept.{is_supported}
-use Rattle.kept_marks.proofs.KeptLemmas.{apart, owner-step, unmarked-on, unsupported-all}
+use Rattle.kept_marks.proofs.KeptLemmas.{apart, unmarked-on}
 use Rattle.kept_marks.proofs.steps.find_support.Goals as goal
-use Rattle.kept_marks.proofs.steps.find_support.Goals.{in-Some+else-is_some, in_default}
+use Rattle.kept_marks.proofs.steps.find_support.Goals.{else-is_some-via-else-is_some, else-is_some-via-then-is_some+else-is_some-2}
 
 pub bounds-supports-owner : goal.bounds-supports-owner
 bounds-supports-owner g c =
-    let there = (c.requires.whole c.in-Some.owner c.in-Some.field-0-1 (_, sym c.step.ensures ∙ c.in-Some.is)).0 in
+    let ends = c.edges_to-ends.result.now in
+    let i = c.loop-owner.owner-index in
+    let there = c.edges_to-ends.ensures.within (end_at ends i).0 (end_at ends i).1 (among-at ends i c.loop-owner-test.true) in
     let room = c.requires.room in
     omega arith
 
-pub returns-then-is_some-clause-some : goal.returns-then-is_some-clause-some
-returns-then-is_some-clause-some g c =
-    let step = owner-step (g.G.PlaceGraph.graph c.args.graph.now) c.args.place c.in-Some.owner c.in-Some.field-0-1 c.edges_to-numbers.result.now c.loop-number.number-index c.edges_to-numbers.ensures c.loop-number-test.true (sym c.step.ensures ∙ c.in-Some.is) in
-    let marked : is_supported c.args.supports.now c.in-Some.owner ≡ true = sym c.if-is_some.ensures in
-    inr (apart c.args.supports.now c.args.place c.in-Some.owner c.requires.free marked, marked, step)
+pub returns-then-is_some-2-clause-some : goal.returns-then-is_some-2-clause-some
+returns-then-is_some-2-clause-some g c =
+    let ends = c.edges_to-ends.result.now in
+    let i = c.loop-owner.owner-index in
+    let owner = (end_at ends i).0 in
+    let number = (end_at ends i).1 in
+    let alone = c.edges_to-ends.ensures.alone owner number in
+    let step = positive-step (g.G.PlaceGraph.graph c.args.graph.now) owner c.args.place number c.step.result c.step.ensures (sym c.if-is_some-2.ensures) (λ b a. alone b a (among-at ends i c.loop-owner-test.true)) in
+    let marked : is_supported c.args.supports.now owner ≡ true = sym c.if-is_some.ensures in
+    inr (apart c.args.supports.now c.args.place owner c.requires.free marked, marked, (number, step))
 
-pub returns-then-is_some-clause-within : goal.returns-then-is_some-clause-within
-returns-then-is_some-clause-within g c =
-    (c.requires.whole c.in-Some.owner c.in-Some.field-0-1 (_, sym c.step.ensures ∙ c.in-Some.is)).0
+pub returns-then-is_some-2-clause-within : goal.returns-then-is_some-2-clause-within
+returns-then-is_some-2-clause-within g c =
+    let ends = c.edges_to-ends.result.now in
+    let i = c.loop-owner.owner-index in
+    c.edges_to-ends.ensures.within (end_at ends i).0 (end_at ends i).1 (among-at ends i c.loop-owner-test.true)
 
-pub loop-number-preserved : goal.loop-number-preserved
-loop-number-preserved g c =
-    let supports = c.args.supports.now in
-    let IsFree : Option (ℕ × ℕ) → Type 0 = λ o. IfSome o (λ s. is_supported supports s.0 ≡ false) in
-    unmarked-on (g.G.PlaceGraph.graph c.args.graph.now) supports c.step.result c.edges_to-numbers.result.now c.loop-number.number-index c.loop-number-test.true c.loop-number.invariant c.step.ensures
-    (elim c.match-step.branch [
-      | in-Some+else-is_some w ↦ subst IsFree (sym w.in-Some.is) (sym w.if-is_some.ensures)
-      | in_default w ↦ subst IsFree (sym w.in_default.is) tt
+pub loop-owner-preserved : goal.loop-owner-preserved
+loop-owner-preserved g c =
+    unmarked-on (g.G.PlaceGraph.graph c.args.graph.now) c.args.supports.now c.args.place c.edges_to-ends.result.now c.loop-owner.owner-index c.loop-owner-test.true
+    (λ step. elim c.else-is_some.branch [
+      | else-is_some-via-then-is_some+else-is_some-2 w ↦ absurd (false≢true (w.if-is_some-2.ensures ∙ ap is_some (w.step.ensures ∙ step)))
+      | else-is_some-via-else-is_some w ↦ sym w.if-is_some.ensures
     ])
-
-pub returns-clause-none : goal.returns-clause-none
-returns-clause-none g c =
-    let all = c.loop-number-test.false in
-    unsupported-all (g.G.PlaceGraph.graph c.args.graph.now) c.args.supports.now c.args.place c.edges_to-numbers.result.now c.loop-number.number-index c.edges_to-numbers.ensures (omega arith) (sym c.if-is_start.ensures) c.loop-number.invariant
+    c.loop-owner.invariant

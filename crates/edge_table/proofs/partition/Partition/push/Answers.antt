@@ -4,12 +4,17 @@ use Rattle.edge_table.proofs.PartitionLemmas.{parted-push}
 use Rattle.edge_table.proofs.partition.Partition.push.Goals as goal
 
 pub returns-clause-ok : goal.returns-clause-ok
-returns-clause-ok c = λ numbers counts parted free.
+returns-clause-ok c = λ ends counts parted free.
     let order = c.self.inside.order.items in
+    let places = c.self.inside.places.items in
     let indices = c.self.inside.indices.items in
-    let was : IsParted numbers counts (record { order = order; indices = indices; front = c.self.inside.front }) = subst (IsParted numbers counts) (sym c.self.view_is) parted in
-    let pushed = parted-push numbers counts order indices c.self.inside.front c.args.number c.len-index.result was free (c.len-index.ensures ∙ c.self.inside.order.ok.0) in
-    let in_order = c.push_reserved.ensures.items ∙ ap (λ xs. xs ++ c.args.number ∷ []) c.reserve.ensures.items in
-    let in_indices = c.push_reserved-2.ensures.items ∙ ap (λ xs. xs ++ c.len-index.result ∷ []) c.reserve-2.ensures.items in
-    subst (λ xs. IsParted (numbers ++ c.args.number ∷ []) counts (record { order = xs; indices = c.push_reserved-2.new.self.items; front = c.self.inside.front })) (sym in_order)
-    (subst (λ xs. IsParted (numbers ++ c.args.number ∷ []) counts (record { order = order ++ c.args.number ∷ []; indices = xs; front = c.self.inside.front })) (sym in_indices) pushed)
+    let front = c.self.inside.front in
+    let last = c.len-last.result in
+    let was : IsParted ends counts (record { order = order; places = places; indices = indices; front = front }) = subst (IsParted ends counts) (sym c.self.view_is) parted in
+    let pushed = parted-push ends counts order places indices front c.args.end last was free (c.len-last.ensures ∙ c.self.inside.order.ok.0) in
+    let in_order = c.push_reserved.ensures.items ∙ ap (λ xs. xs ++ c.args.end ∷ []) c.reserve.ensures.items in
+    let in_places = c.push_reserved-2.ensures.items ∙ ap (λ xs. xs ++ last ∷ []) c.reserve-2.ensures.items in
+    let in_indices = c.push_reserved-3.ensures.items ∙ ap (λ xs. xs ++ last ∷ []) c.reserve-3.ensures.items in
+    subst (λ xs. IsParted (ends ++ c.args.end ∷ []) counts (record { order = xs; places = c.push_reserved-2.new.self.items; indices = c.push_reserved-3.new.self.items; front = front })) (sym in_order)
+    (subst (λ xs. IsParted (ends ++ c.args.end ∷ []) counts (record { order = order ++ c.args.end ∷ []; places = xs; indices = c.push_reserved-3.new.self.items; front = front })) (sym in_places)
+    (subst (λ xs. IsParted (ends ++ c.args.end ∷ []) counts (record { order = order ++ c.args.end ∷ []; places = places ++ last ∷ []; indices = xs; front = front })) (sym in_indices) pushed))

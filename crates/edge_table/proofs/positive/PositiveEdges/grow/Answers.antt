@@ -7,18 +7,18 @@ use Rattle.edge_table.proofs.positive.PositiveEdges.grow.Goals as goal
 pub push-requires : goal.push-requires
 push-requires c =
     let before = c.requires.kept.0 in
-    let more = ap length c.requires.kept.1 ∙ length-append before (c.args.number ∷ []) in
+    let more = ap length c.requires.kept.1 ∙ length-append before (c.args.end ∷ []) in
     let few = c.requires.few in
     (before, is_positive_at c.args.edges.now, omega arith, c.requires.kept.2)
 
-pub returns-then-numbers-le-MANY-clause-kept : goal.returns-then-numbers-le-MANY-clause-kept
-returns-then-numbers-le-MANY-clause-kept c =
+pub returns-then-ends-le-MANY-clause-kept : goal.returns-then-ends-le-MANY-clause-kept
+returns-then-ends-le-MANY-clause-kept c =
     let before = c.requires.kept.0 in
     let counts = is_positive_at c.args.edges.now in
     let kept = kept_of c.args.self.now c.args.place in
-    let more = ap length c.requires.kept.1 ∙ length-append before (c.args.number ∷ []) in
-    let short = c.if-numbers-le-MANY.true in
-    kept-none c.args.numbers.now counts kept (kept-short before counts kept (omega arith) c.requires.kept.2)
+    let more = ap length c.requires.kept.1 ∙ length-append before (c.args.end ∷ []) in
+    let short = c.if-ends-le-MANY.true in
+    kept-none c.args.ends.now counts kept (kept-short before counts kept (omega arith) c.requires.kept.2)
 
 pub returns-then-push-clause-kept : goal.returns-then-push-clause-kept
 returns-then-push-clause-kept c =

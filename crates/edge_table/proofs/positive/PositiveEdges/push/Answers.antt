@@ -18,5 +18,5 @@ returns-then-is_ok-clause-pushed c = λ _ before counts free kept s there.
     let pushed = at_success _ c.push.result (λ e failed. false≢true (sym (c.is_ok.ensures.value ∙ ap is_ok failed) ∙ c.if-is_ok.true)) c.push.ensures.ok in
     let same : is ≡ s = cc (written.0, there) in
     let long = old.0 in
-    let more = length-append before (c.args.number ∷ []) in
-    subst (λ (x : Parted). (MANY < length (before ++ c.args.number ∷ [])) × IsParted (before ++ c.args.number ∷ []) counts x) same (omega arith, pushed before counts old.1 free)
+    let more = length-append before (c.args.end ∷ []) in
+    subst (λ (x : Parted). (MANY < length (before ++ c.args.end ∷ [])) × IsParted (before ++ c.args.end ∷ []) counts x) same (omega arith, pushed before counts old.1 free)

@@ -5,9 +5,9 @@ use Rattle.edge_table.specs.declared.positive.TheConstants.{MANY}
 use Rattle.edge_table.proofs.PartitionLemmas.{kept-none, kept-short, kept-written}
 use Rattle.edge_table.proofs.positive.PositiveEdges.set.Goals as goal
 
-pub returns-then-numbers-le-MANY-clause-kept : goal.returns-then-numbers-le-MANY-clause-kept
-returns-then-numbers-le-MANY-clause-kept c = λ old new at kept.
-    kept-none c.args.numbers.now new (kept_of c.args.self.now c.args.place) (kept-short c.args.numbers.now old (kept_of c.args.self.now c.args.place) c.if-numbers-le-MANY.true kept)
+pub returns-then-ends-le-MANY-clause-kept : goal.returns-then-ends-le-MANY-clause-kept
+returns-then-ends-le-MANY-clause-kept c = λ old new at kept.
+    kept-none c.args.ends.now new (kept_of c.args.self.now c.args.place) (kept-short c.args.ends.now old (kept_of c.args.self.now c.args.place) c.if-ends-le-MANY.true kept)
 
 pub set-requires-clause-parted : goal.set-requires-clause-parted
 set-requires-clause-parted c =
@@ -23,8 +23,8 @@ returns-clause-kept c = λ old new at kept s there.
     let written = kept-written places (c.get_mut.follows.lender is) c.args.place was is found (c.get_mut.follows.holds is) in
     let before = kept was (ap (λ entries. kept_of entries c.args.place) (sym c.self.view_is) ∙ sym found) in
     let same : is ≡ s = cc (written.0, there) in
-    subst (λ (x : Parted). (MANY < length c.args.numbers.now) × IsParted c.args.numbers.now new x) same (before.0, c.set.ensures old new before.1 at)
+    subst (λ (x : Parted). (MANY < length c.args.ends.now) × IsParted c.args.ends.now new x) same (before.0, c.set.ensures old new before.1 at)
 
 pub returns-in_default-clause-kept : goal.returns-in_default-clause-kept
 returns-in_default-clause-kept c = λ old new at kept.
-    kept-none c.args.numbers.now new (kept_of c.get_mut.follows.lender-at-none.entries c.args.place) (ap (λ (m : BTreeMap ℕ Parted). kept_of m.entries c.args.place) c.get_mut.follows.holds-at-none ∙ sym c.in_default.ensures.value)
+    kept-none c.args.ends.now new (kept_of c.get_mut.follows.lender-at-none.entries c.args.place) (ap (λ (m : BTreeMap ℕ Parted). kept_of m.entries c.args.place) c.get_mut.follows.holds-at-none ∙ sym c.in_default.ensures.value)

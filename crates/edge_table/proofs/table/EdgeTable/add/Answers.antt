@@ -5,7 +5,7 @@ use Rattle.std.specs.Result.{is_err}
 use Rattle.crgc_ids.proofs.SuccessLaws.{at_success}
 use Rattle.edge_table.specs.Index.{AreFound}
 use Rattle.edge_table.specs.Partition.{IsKeptOf, kept_of}
-use Rattle.edge_table.specs.Table.{ArePositiveKept, Edges, IsTable, edges_from, edges_to, is_positive_at, same_pair}
+use Rattle.edge_table.specs.Table.{ArePositiveKept, Edges, IsTable, ends_from, ends_to, is_positive_at, same_pair}
 use Rattle.edge_table.specs.declared.table.Edge.{Edge}
 use Rattle.edge_table.proofs.FoundLemmas.{found-added, last-found, list-read, list-within}
 use Rattle.edge_table.proofs.PositiveLemmas.{kept-before, list-few, list-rising, parted-grown}
@@ -41,8 +41,8 @@ found_is c =
     let lists = c.reserve.ensures.places in
     let room_inside : c.args.owner_place < length c.reserve.new.places.items = (let long = lists.long in omega arith) in
     let room_inside_to : c.args.target_place < length c.reserve.new.places.items = (let long = lists.long in omega arith) in
-    let froms = list-read from_of (edges_from c.self.inside.edges.items) c.reserve.new.places.items c.args.owner_place c.index.result.now _ room_inside c.index.ensures refl (λ p. lists.from p ∙ c.self.invariant.0.from p) in
-    let tos = list-read to_of (edges_to c.self.inside.edges.items) c.reserve.new.places.items c.args.target_place c.index-2.result.now _ room_inside_to c.index-2.ensures refl (λ p. lists.to p ∙ c.self.invariant.0.to p) in
+    let froms = list-read from_of (ends_from c.self.inside.edges.items) c.reserve.new.places.items c.args.owner_place c.index.result.now _ room_inside c.index.ensures refl (λ p. lists.from p ∙ c.self.invariant.0.from p) in
+    let tos = list-read to_of (ends_to c.self.inside.edges.items) c.reserve.new.places.items c.args.target_place c.index-2.result.now _ room_inside_to c.index-2.ensures refl (λ p. lists.to p ∙ c.self.invariant.0.to p) in
     let new = subst (λ (t : Edges). position (same_pair (c.args.owner, c.args.target)) t.pairs ≡ None) (sym c.self.view_is) c.requires.new in
     let mapped = at_success _ c.push.result (λ e is. false≢true (sym c.if-is_err-2.false ∙ c.is_err-2.ensures.value ∙ ap is_err is)) c.push.ensures.mapped in
     let kept = at_success _ c.push.result (λ e is. false≢true (sym c.if-is_err-2.false ∙ c.is_err-2.ensures.value ∙ ap is_err is)) c.push.ensures.kept in
@@ -52,23 +52,23 @@ found_is c =
 
 -- ---- the lists of its places
 
-from_is : (c : After-from) → IsTable c.push.new.self.pairs c.push_reserved.new.self.items (set (set c.reserve.new.places.items c.args.owner_place c.push_from.new.self) c.args.target_place c.push_to.new.self) → c.from.result.now ≡ edges_from c.push_reserved.new.self.items c.args.owner_place
+from_is : (c : After-from) → IsTable c.push.new.self.pairs c.push_reserved.new.self.items (set (set c.reserve.new.places.items c.args.owner_place c.push_from.new.self) c.args.target_place c.push_to.new.self) → c.from.result.now ≡ ends_from c.push_reserved.new.self.items c.args.owner_place
 from_is c table =
     let middle = set c.reserve.new.places.items c.args.owner_place c.push_from.new.self in
     let places = set middle c.args.target_place c.push_to.new.self in
     let owner = subst (λ (t : Edges). c.args.owner_place < t.places) (sym c.self.view_is) c.requires.owner in
     let long = c.reserve.ensures.places.long in
     let inside : c.args.owner_place < length places = (let one = length-set middle c.args.target_place c.push_to.new.self in let two = length-set c.reserve.new.places.items c.args.owner_place c.push_from.new.self in omega arith) in
-    list-read from_of (edges_from c.push_reserved.new.self.items) places c.args.owner_place c.index-3.result.now c.from.result.now inside c.index-3.ensures c.from.ensures table.from
+    list-read from_of (ends_from c.push_reserved.new.self.items) places c.args.owner_place c.index-3.result.now c.from.result.now inside c.index-3.ensures c.from.ensures table.from
 
-to_is : (c : After-to) → IsTable c.push.new.self.pairs c.push_reserved.new.self.items (set (set c.reserve.new.places.items c.args.owner_place c.push_from.new.self) c.args.target_place c.push_to.new.self) → c.to.result.now ≡ edges_to c.push_reserved.new.self.items c.args.target_place
+to_is : (c : After-to) → IsTable c.push.new.self.pairs c.push_reserved.new.self.items (set (set c.reserve.new.places.items c.args.owner_place c.push_from.new.self) c.args.target_place c.push_to.new.self) → c.to.result.now ≡ ends_to c.push_reserved.new.self.items c.args.target_place
 to_is c table =
     let middle = set c.reserve.new.places.items c.args.owner_place c.push_from.new.self in
     let places = set middle c.args.target_place c.push_to.new.self in
     let target = subst (λ (t : Edges). c.args.target_place < t.places) (sym c.self.view_is) c.requires.target in
     let long = c.reserve.ensures.places.long in
     let inside : c.args.target_place < length places = (let one = length-set middle c.args.target_place c.push_to.new.self in let two = length-set c.reserve.new.places.items c.args.owner_place c.push_from.new.self in omega arith) in
-    list-read to_of (edges_to c.push_reserved.new.self.items) places c.args.target_place c.index-4.result.now c.to.result.now inside c.index-4.ensures c.to.ensures table.to
+    list-read to_of (ends_to c.push_reserved.new.self.items) places c.args.target_place c.index-4.result.now c.to.result.now inside c.index-4.ensures c.to.ensures table.to
 
 number_is : (c : After-push_to) → length c.self.inside.edges.items ≡ c.len-number.result
 number_is c = sym (c.len-number.ensures ∙ c.self.inside.edges.ok.0)
@@ -78,13 +78,13 @@ number_is c = sym (c.len-number.ensures ∙ c.self.inside.edges.ok.0)
 pub grow-requires-clause-rising : goal.grow-requires-clause-rising
 grow-requires-clause-rising c =
     let all = goal.at.grow-requires-clause-rising c in
-    list-rising owner_of refl c.push_reserved.new.self.items c.args.owner_place c.from.result.now (from_is all.After-from (table_is all.After-push_to))
+    list-rising owner_of target_of refl c.push_reserved.new.self.items c.args.owner_place c.from.result.now (from_is all.After-from (table_is all.After-push_to))
 
 pub grow-requires-clause-few : goal.grow-requires-clause-few
 grow-requires-clause-few c =
     let all = goal.at.grow-requires-clause-few c in
     let table = table_is all.After-push_to in
-    let few = list-few owner_of refl c.push_reserved.new.self.items c.args.owner_place c.from.result.now (from_is all.After-from table) in
+    let few = list-few owner_of target_of refl c.push_reserved.new.self.items c.args.owner_place c.from.result.now (from_is all.After-from table) in
     let bound = table.few_edges in
     omega arith
 
@@ -92,30 +92,30 @@ pub grow-requires-clause-within : goal.grow-requires-clause-within
 grow-requires-clause-within c = λ n among.
     let all = goal.at.grow-requires-clause-within c in
     subst (λ (es : List Edge). n < length es) (sym c.as_slice-edges.ensures.value)
-    (list-within owner_of refl c.push_reserved.new.self.items c.args.owner_place c.from.result.now (from_is all.After-from (table_is all.After-push_to)) n among)
+    (list-within owner_of target_of refl c.push_reserved.new.self.items c.args.owner_place c.from.result.now (from_is all.After-from (table_is all.After-push_to)) n among)
 
 pub grow-requires-clause-kept : goal.grow-requires-clause-kept
 grow-requires-clause-kept c =
     let all = goal.at.grow-requires-clause-kept c in
     let edges = c.self.inside.edges.items in
     let e = added all.After-push_to in
-    let is = subst (λ (es : List Edge). c.from.result.now ≡ edges_from es c.args.owner_place) (edges_are all.After-push_to) (from_is all.After-from (table_is all.After-push_to)) in
-    let before = kept-before owner_of refl edges e c.self.inside.by_owner c.from.result.now is c.self.invariant.1.1.from in (
+    let is = subst (λ (es : List Edge). c.from.result.now ≡ ends_from es c.args.owner_place) (edges_are all.After-push_to) (from_is all.After-from (table_is all.After-push_to)) in
+    let before = kept-before owner_of target_of refl edges e c.self.inside.by_owner c.from.result.now is c.self.invariant.1.1.from in (
       before.0,
-      subst (λ n. c.from.result.now ≡ before.0 ++ n ∷ []) (number_is all.After-push_to) before.1,
+      subst (λ n. c.from.result.now ≡ before.0 ++ (c.args.target_place, n) ∷ []) (number_is all.After-push_to) before.1,
       subst (λ (es : List Edge). IsKeptOf before.0 (is_positive_at es) (kept_of c.self.inside.by_owner c.args.owner_place)) (sym (c.as_slice-edges.ensures.value ∙ edges_are all.After-push_to)) before.2,
     )
 
 pub grow-requires-2-clause-rising : goal.grow-requires-2-clause-rising
 grow-requires-2-clause-rising c =
     let all = goal.at.grow-requires-2-clause-rising c in
-    list-rising target_of refl c.push_reserved.new.self.items c.args.target_place c.to.result.now (to_is all.After-to (table_is all.After-push_to))
+    list-rising target_of owner_of refl c.push_reserved.new.self.items c.args.target_place c.to.result.now (to_is all.After-to (table_is all.After-push_to))
 
 pub grow-requires-2-clause-few : goal.grow-requires-2-clause-few
 grow-requires-2-clause-few c =
     let all = goal.at.grow-requires-2-clause-few c in
     let table = table_is all.After-push_to in
-    let few = list-few target_of refl c.push_reserved.new.self.items c.args.target_place c.to.result.now (to_is all.After-to table) in
+    let few = list-few target_of owner_of refl c.push_reserved.new.self.items c.args.target_place c.to.result.now (to_is all.After-to table) in
     let bound = table.few_edges in
     omega arith
 
@@ -123,17 +123,17 @@ pub grow-requires-2-clause-within : goal.grow-requires-2-clause-within
 grow-requires-2-clause-within c = λ n among.
     let all = goal.at.grow-requires-2-clause-within c in
     subst (λ (es : List Edge). n < length es) (sym c.as_slice-edges.ensures.value)
-    (list-within target_of refl c.push_reserved.new.self.items c.args.target_place c.to.result.now (to_is all.After-to (table_is all.After-push_to)) n among)
+    (list-within target_of owner_of refl c.push_reserved.new.self.items c.args.target_place c.to.result.now (to_is all.After-to (table_is all.After-push_to)) n among)
 
 pub grow-requires-2-clause-kept : goal.grow-requires-2-clause-kept
 grow-requires-2-clause-kept c =
     let all = goal.at.grow-requires-2-clause-kept c in
     let edges = c.self.inside.edges.items in
     let e = added all.After-push_to in
-    let is = subst (λ (es : List Edge). c.to.result.now ≡ edges_to es c.args.target_place) (edges_are all.After-push_to) (to_is all.After-to (table_is all.After-push_to)) in
-    let before = kept-before target_of refl edges e c.self.inside.by_target c.to.result.now is c.self.invariant.1.1.to in (
+    let is = subst (λ (es : List Edge). c.to.result.now ≡ ends_to es c.args.target_place) (edges_are all.After-push_to) (to_is all.After-to (table_is all.After-push_to)) in
+    let before = kept-before target_of owner_of refl edges e c.self.inside.by_target c.to.result.now is c.self.invariant.1.1.to in (
       before.0,
-      subst (λ n. c.to.result.now ≡ before.0 ++ n ∷ []) (number_is all.After-push_to) before.1,
+      subst (λ n. c.to.result.now ≡ before.0 ++ (c.args.owner_place, n) ∷ []) (number_is all.After-push_to) before.1,
       subst (λ (es : List Edge). IsKeptOf before.0 (is_positive_at es) (kept_of c.self.inside.by_target c.args.target_place)) (sym (c.as_slice-edges.ensures.value ∙ edges_are all.After-push_to)) before.2,
     )
 
@@ -145,15 +145,15 @@ invariant_of-self-2 c =
     let e = added all.After-push_to in
     let are = edges_are all.After-push_to in
     let seen = c.as_slice-edges.ensures.value ∙ are in
-    let from = subst (λ (es : List Edge). c.from.result.now ≡ edges_from es c.args.owner_place) are (from_is all.After-from table) in
-    let to = subst (λ (es : List Edge). c.to.result.now ≡ edges_to es c.args.target_place) are (to_is all.After-to table) in (
+    let from = subst (λ (es : List Edge). c.from.result.now ≡ ends_from es c.args.owner_place) are (from_is all.After-from table) in
+    let to = subst (λ (es : List Edge). c.to.result.now ≡ ends_to es c.args.target_place) are (to_is all.After-to table) in (
       table,
       (
         found_is all.After-push_to,
         subst (λ (es : List Edge). ArePositiveKept es c.grow.new.self c.grow-2.new.self) (sym are) (record {
-          from = parted-grown owner_of refl edges e c.self.inside.by_owner c.grow.new.self c.from.result.now from c.self.invariant.1.1.from
+          from = parted-grown owner_of target_of refl edges e c.self.inside.by_owner c.grow.new.self c.from.result.now from c.self.invariant.1.1.from
               (subst (λ (es : List Edge). IsKeptOf c.from.result.now (is_positive_at es) (kept_of c.grow.new.self c.args.owner_place)) seen c.grow.ensures.kept) c.grow.ensures.others;
-          to = parted-grown target_of refl edges e c.self.inside.by_target c.grow-2.new.self c.to.result.now to c.self.invariant.1.1.to
+          to = parted-grown target_of owner_of refl edges e c.self.inside.by_target c.grow-2.new.self c.to.result.now to c.self.invariant.1.1.to
               (subst (λ (es : List Edge). IsKeptOf c.to.result.now (is_positive_at es) (kept_of c.grow-2.new.self c.args.target_place)) seen c.grow-2.ensures.kept) c.grow-2.ensures.others;
         }),
       ),

@@ -1,77 +1,95 @@
-use Rattle.std.proofs.Common.{◌≡◌, ◌<◌, ◌↔◌, ℕ, List, Some, inl, inr, length, map, position, refl, subst, sym, take, ◌∙◌}
+use Rattle.std.proofs.Common.{◌≡◌, ◌<◌, ◌↔◌, ℕ, Some, inl, inr, length, position, refl, subst, sym, take, ◌∙◌}
 use Rattle.crgc_ids.specs.Members.{IsAmong}
-use Rattle.edge_table.specs.Ends.{numbers_of}
-use Rattle.edge_table.specs.Index.{AreFound}
-use Rattle.edge_table.specs.Table.{Edges, HasEnds, IsBetween, edges_from, edges_to, same_pair}
+use Rattle.edge_table.specs.Table.{Edges, HasEnds, IsBetween, ends_from, ends_to, same_pair}
 use Rattle.edge_table.specs.declared.near.TheConstants.{NEAR}
-use Rattle.edge_table.specs.declared.table.Edge.{Edge}
-use Rattle.edge_table.proofs.FoundLemmas.{list-first, list-near, list-read, list-within, map_is_right, near_is_right, none_there}
+use Rattle.edge_table.proofs.FoundLemmas.{list-first, list-found, list-near, list-read, all_some, map_is_right, near_is_right, none_there}
 use Rattle.edge_table.proofs.TableLemmas.{from_of, owner_of, target_of, to_of}
 use Rattle.edge_table.proofs.table.EdgeTable.number_of.Goals as goal
 use Rattle.edge_table.proofs.table.EdgeTable.number_of.Goals.{After-from-from, After-to-to}
 
 -- the lists of both places
-from_is : (c : After-from-from) → c.from-from.result.now ≡ numbers_of c.args.owner_place 0 (map owner_of c.as_slice-edges.result.now)
+from_is : (c : After-from-from) → c.from-from.result.now ≡ ends_from c.self.inside.edges.items c.args.owner_place
 from_is c =
     let places = c.self.inside.places.items in
     let inside : c.args.owner_place < length places = subst (λ (t : Edges). c.args.owner_place < t.places) (sym c.self.view_is) c.requires.owner in
-    subst (λ (es : List Edge). c.from-from.result.now ≡ edges_from es c.args.owner_place) (sym c.as_slice-edges.ensures.value)
-    (list-read from_of (edges_from c.self.inside.edges.items) places c.args.owner_place c.index.result.now c.from-from.result.now inside c.index.ensures c.from-from.ensures c.self.invariant.0.from)
+    list-read from_of (ends_from c.self.inside.edges.items) places c.args.owner_place c.index.result.now c.from-from.result.now inside c.index.ensures c.from-from.ensures c.self.invariant.0.from
 
-to_is : (c : After-to-to) → c.to-to.result.now ≡ numbers_of c.args.target_place 0 (map target_of c.as_slice-edges.result.now)
+to_is : (c : After-to-to) → c.to-to.result.now ≡ ends_to c.self.inside.edges.items c.args.target_place
 to_is c =
     let places = c.self.inside.places.items in
     let inside : c.args.target_place < length places = subst (λ (t : Edges). c.args.target_place < t.places) (sym c.self.view_is) c.requires.target in
-    subst (λ (es : List Edge). c.to-to.result.now ≡ edges_to es c.args.target_place) (sym c.as_slice-edges.ensures.value)
-    (list-read to_of (edges_to c.self.inside.edges.items) places c.args.target_place c.index-2.result.now c.to-to.result.now inside c.index-2.ensures c.to-to.ensures c.self.invariant.0.to)
+    list-read to_of (ends_to c.self.inside.edges.items) places c.args.target_place c.index-2.result.now c.to-to.result.now inside c.index-2.ensures c.to-to.ensures c.self.invariant.0.to
+
+-- what they have leads from the one place to the other
+from_right : (c : After-from-from) (n : ℕ) → IsAmong (c.args.target_place, n) c.from-from.result.now → IsBetween c.self.inside.edges.items n c.args.owner_place c.args.target_place
+from_right c n h = list-found owner_of target_of refl c.self.inside.edges.items c.args.owner_place c.from-from.result.now (from_is c) c.args.target_place n h
+
+to_right : (c : After-to-to) (n : ℕ) → IsAmong (c.args.owner_place, n) c.to-to.result.now → IsBetween c.self.inside.edges.items n c.args.owner_place c.args.target_place
+to_right c n h = (let at = list-found target_of owner_of refl c.self.inside.edges.items c.args.target_place c.to-to.result.now (to_is c) c.args.owner_place n h in (at.0, at.2, at.1))
 
 -- the edge of the pair is the one between these places
-between : (c : After-from-from) (n : ℕ) → (position (same_pair (c.args.owner, c.args.target)) c.self.inside.pairs.pairs ≡ Some n) ↔ IsBetween c.as_slice-edges.result.now n c.args.owner_place c.args.target_place
-between c =
-    subst (λ (es : List Edge). (n : ℕ) → (position (same_pair (c.args.owner, c.args.target)) c.self.inside.pairs.pairs ≡ Some n) ↔ IsBetween es n c.args.owner_place c.args.target_place) (sym c.as_slice-edges.ensures.value)
-    (subst (λ (t : Edges). HasEnds t c.args.owner c.args.target c.args.owner_place c.args.target_place) (sym c.self.view_is) c.requires.ends)
-
-pub number_near-requires : goal.number_near-requires
-number_near-requires c = λ n h.
-    list-within target_of refl c.as_slice-edges.result.now c.args.target_place c.to-to.result.now (to_is (goal.at.number_near-requires c).After-to-to) n h
+between : (c : After-from-from) (n : ℕ) → (position (same_pair (c.args.owner, c.args.target)) c.self.inside.pairs.pairs ≡ Some n) ↔ IsBetween c.self.inside.edges.items n c.args.owner_place c.args.target_place
+between c = subst (λ (t : Edges). HasEnds t c.args.owner c.args.target c.args.owner_place c.args.target_place) (sym c.self.view_is) c.requires.ends
 
 pub returns-then-to-le-NEAR-clause-number : goal.returns-then-to-le-NEAR-clause-number
 returns-then-to-le-NEAR-clause-number c =
     let from = (goal.at.returns-then-to-le-NEAR-clause-number c).After-from-from in
     let to = (goal.at.returns-then-to-le-NEAR-clause-number c).After-to-to in
-    let edges = c.as_slice-edges.result.now in
-    rw (← c.self.view_is) (near_is_right _ c.number_near.result (λ n. IsBetween edges n c.args.owner_place c.args.target_place) (λ n. IsAmong n (take NEAR c.to-to.result.now)) (between from)
-    (λ n is. list-first target_of refl edges c.args.target_place c.to-to.result.now (to_is to) n is.0 is.2 c.if-to-le-NEAR.true)
-    c.number_near.ensures.number c.number_near.ensures.none)
-
-pub number_near-requires-2 : goal.number_near-requires-2
-number_near-requires-2 c = λ n h.
-    list-within owner_of refl c.as_slice-edges.result.now c.args.owner_place c.from-from.result.now (from_is (goal.at.number_near-requires-2 c).After-from-from) n h
+    let edges = c.self.inside.edges.items in
+    let list = c.to-to.result.now in
+    let owner = c.args.owner_place in
+    let target = c.args.target_place in
+    rw (← c.self.view_is) (near_is_right _ c.number_near.result (λ n. IsBetween edges n owner target) (λ n. IsAmong (owner, n) (take NEAR list)) (λ n. IsAmong (owner, n) list) (between from)
+    (λ n is. list-first target_of owner_of refl edges target list (to_is to) owner n is.0 is.2 is.1 c.if-to-le-NEAR.true)
+    (to_right to) c.number_near.ensures.number c.number_near.ensures.none)
 
 pub returns-then-from-le-NEAR-clause-number : goal.returns-then-from-le-NEAR-clause-number
 returns-then-from-le-NEAR-clause-number c =
     let from = (goal.at.returns-then-from-le-NEAR-clause-number c).After-from-from in
-    let edges = c.as_slice-edges.result.now in
+    let edges = c.self.inside.edges.items in
     rw (← c.self.view_is) (sym (none_there _ (λ n there.
     let is = (between from n).0 there in
-    c.in_default.ensures.none n (list-first owner_of refl edges c.args.owner_place c.from-from.result.now (from_is from) n is.0 is.1 c.if-from-le-NEAR.true) is)))
-
-pub number_near-requires-3 : goal.number_near-requires-3
-number_near-requires-3 c = λ n h.
-    list-within target_of refl c.as_slice-edges.result.now c.args.target_place c.to-to.result.now (to_is (goal.at.number_near-requires-3 c).After-to-to) n h
+    c.in_default.ensures.none n (list-first owner_of target_of refl edges c.args.owner_place c.from-from.result.now (from_is from) c.args.target_place n is.0 is.1 is.2 c.if-from-le-NEAR.true))))
 
 pub returns-clause-number : goal.returns-clause-number
 returns-clause-number c =
     let from = (goal.at.returns-clause-number c).After-from-from in
     let to = (goal.at.returns-clause-number c).After-to-to in
-    let edges = c.as_slice-edges.result.now in
-    let found = subst (λ (es : List Edge). AreFound c.self.inside.pairs es) (sym c.as_slice-edges.ensures.value) c.self.invariant.1.0 in
+    let edges = c.self.inside.edges.items in
+    let owner = c.args.owner_place in
+    let target = c.args.target_place in
     rw (← c.self.view_is) (map_is_right _ c.number_mapped.result c.number_mapped.ensures.number (λ n there.
     let is = (between from n).0 there in
-    elim (found (c.args.owner, c.args.target) n there) [
+    elim (c.self.invariant.1.0 (c.args.owner, c.args.target) n there) [
       | inl near ↦ elim near [
-        | inl first ↦ absurd (c.in_default.ensures.none n (list-near owner_of refl edges c.args.owner_place c.from-from.result.now (from_is from) n is.1 first) is)
-        | inr first ↦ absurd (c.in_default-number_near.ensures.none n (list-near target_of refl edges c.args.target_place c.to-to.result.now (to_is to) n is.2 first) is)
+        | inl first ↦ absurd (c.in_default.ensures.none n (list-near owner_of target_of refl edges owner c.from-from.result.now (from_is from) target n is.1 is.2 first))
+        | inr first ↦ absurd (c.in_default-number_near.ensures.none n (list-near target_of owner_of refl edges target c.to-to.result.now (to_is to) owner n is.2 is.1 first))
       ]
       | inr has ↦ c.number_mapped.ensures.value ∙ has
     ]))
+
+pub returns-then-to-le-NEAR-clause-within : goal.returns-then-to-le-NEAR-clause-within
+returns-then-to-le-NEAR-clause-within c =
+    let to = (goal.at.returns-then-to-le-NEAR-clause-within c).After-to-to in
+    rw (← c.self.view_is) (all_some c.number_near.result (λ n. IsAmong (c.args.owner_place, n) c.to-to.result.now) (λ n. n < length c.self.inside.edges.items) (λ n h. (to_right to n h).0) c.number_near.ensures.number)
+
+pub returns-in-Some-clause-number : goal.returns-in-Some-clause-number
+returns-in-Some-clause-number c =
+    let from = (goal.at.returns-in-Some-clause-number c).After-from-from in
+    rw (← c.self.view_is) (sym ((between from c.in-Some.number).1 (from_right from c.in-Some.number c.in-Some.ensures.number)))
+
+pub returns-in-Some-clause-within : goal.returns-in-Some-clause-within
+returns-in-Some-clause-within c =
+    let from = (goal.at.returns-in-Some-clause-within c).After-from-from in
+    rw (← c.self.view_is) (from_right from c.in-Some.number c.in-Some.ensures.number).0
+
+pub returns-in-Some-number_near-clause-number : goal.returns-in-Some-number_near-clause-number
+returns-in-Some-number_near-clause-number c =
+    let from = (goal.at.returns-in-Some-number_near-clause-number c).After-from-from in
+    let to = (goal.at.returns-in-Some-number_near-clause-number c).After-to-to in
+    rw (← c.self.view_is) (sym ((between from c.in-Some-number_near.number).1 (to_right to c.in-Some-number_near.number c.in-Some-number_near.ensures.number)))
+
+pub returns-in-Some-number_near-clause-within : goal.returns-in-Some-number_near-clause-within
+returns-in-Some-number_near-clause-within c =
+    let to = (goal.at.returns-in-Some-number_near-clause-within c).After-to-to in
+    rw (← c.self.view_is) (to_right to c.in-Some-number_near.number c.in-Some-number_near.ensures.number).0

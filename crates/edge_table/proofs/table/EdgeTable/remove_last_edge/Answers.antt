@@ -1,8 +1,8 @@
-use Rattle.std.proofs.Common.{◌<◌, ◌++◌, ℕ, List, [], ◌∷◌, length, map, refl, subst, sym}
-use Rattle.edge_table.specs.Ends.{numbers_of}
+use Rattle.std.proofs.Common.{◌<◌, ◌++◌, ℕ, List, [], ◌∷◌, length, refl, subst, sym}
 use Rattle.edge_table.specs.Partition.{AreParted, Parted}
 use Rattle.edge_table.specs.Table.{Edges, is_positive_at}
 use Rattle.edge_table.specs.declared.table.Edge.{Edge}
+use Rattle.edge_table.proofs.EndsLemmas.{ends_at}
 use Rattle.edge_table.proofs.FoundLemmas.{found-removed}
 use Rattle.edge_table.proofs.PositiveLemmas.{parted-forgotten}
 use Rattle.edge_table.proofs.TableLemmas.{one_less, owner_of, table-edge_removed, target_of}
@@ -17,12 +17,12 @@ invariant_of-self c =
       (
         found-removed c.self.inside.pairs c.pop.new.self c.pop-2.new.self.items c.self.inside.edges.items c.in-Some.edge _ c.pop.ensures.pairs c.in-Some.ensures.items (sym table.long) c.self.invariant.1.0 c.pop.ensures.kept,
         record {
-          from = parted-forgotten owner_of refl c.pop-2.new.self.items c.in-Some.edge c.self.inside.by_owner c.forget.new.self (was owner_of c.self.inside.by_owner c.self.invariant.1.1.from) c.forget.ensures.none c.forget.ensures.others;
-          to = parted-forgotten target_of refl c.pop-2.new.self.items c.in-Some.edge c.self.inside.by_target c.forget-in-Some.new.self (was target_of c.self.inside.by_target c.self.invariant.1.1.to) c.forget-in-Some.ensures.none c.forget-in-Some.ensures.others;
+          from = parted-forgotten owner_of target_of refl c.pop-2.new.self.items c.in-Some.edge c.self.inside.by_owner c.forget.new.self (was owner_of target_of c.self.inside.by_owner c.self.invariant.1.1.from) c.forget.ensures.none c.forget.ensures.others;
+          to = parted-forgotten target_of owner_of refl c.pop-2.new.self.items c.in-Some.edge c.self.inside.by_target c.forget-in-Some.new.self (was target_of owner_of c.self.inside.by_target c.self.invariant.1.1.to) c.forget-in-Some.ensures.none c.forget-in-Some.ensures.others;
         },
       ),
     )
   where
-    was : (end : Edge → ℕ) (kept : List (ℕ × Parted)) → AreParted (λ p. numbers_of p 0 (map end c.self.inside.edges.items)) (is_positive_at c.self.inside.edges.items) kept
-        → AreParted (λ p. numbers_of p 0 (map end (c.pop-2.new.self.items ++ c.in-Some.edge ∷ []))) (is_positive_at (c.pop-2.new.self.items ++ c.in-Some.edge ∷ [])) kept
-    was end kept = subst (λ (es : List Edge). AreParted (λ p. numbers_of p 0 (map end es)) (is_positive_at es) kept) c.in-Some.ensures.items
+    was : (end other : Edge → ℕ) (kept : List (ℕ × Parted)) → AreParted (ends_at end other c.self.inside.edges.items) (is_positive_at c.self.inside.edges.items) kept
+        → AreParted (ends_at end other (c.pop-2.new.self.items ++ c.in-Some.edge ∷ [])) (is_positive_at (c.pop-2.new.self.items ++ c.in-Some.edge ∷ [])) kept
+    was end other kept = subst (λ (es : List Edge). AreParted (ends_at end other es) (is_positive_at es) kept) c.in-Some.ensures.items

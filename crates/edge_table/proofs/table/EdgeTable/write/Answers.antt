@@ -5,12 +5,11 @@ use Rattle.std.proofs.lemmas.List.{get_or_default}
 use mathlib.Core.Bool.{beq}
 use Rattle.crgc_ids.specs.Members.{IsAmong}
 use Rattle.edge_table.specs.Index.{AreFound}
-use Rattle.edge_table.specs.Partition.{CountsAt, IsKeptOf, kept_of}
-use Rattle.edge_table.specs.Table.{Edges, IsTable, edge_at, edges_from, edges_to, is_positive, is_positive_at, no_edge}
+use Rattle.edge_table.specs.Partition.{CountsAt, IsKeptOf, kept_of, numbers_in}
+use Rattle.edge_table.specs.Table.{Edges, IsTable, edge_at, ends_from, ends_to, is_positive, is_positive_at, no_edge}
 use Rattle.edge_table.specs.declared.table.Edge.{Edge}
 use Rattle.edge_table.proofs.FoundLemmas.{found-changed, list-read}
-use Rattle.edge_table.proofs.ListedLemmas.{listed}
-use Rattle.edge_table.proofs.PositiveLemmas.{list-few, list-rising, parted-same, parted-set}
+use Rattle.edge_table.proofs.PositiveLemmas.{list-few, list-rising, listed_back, parted-same, parted-set}
 use Rattle.edge_table.proofs.TableLemmas.{ends-stay, from_of, owner_of, table-edge_changed, target_of, to_of}
 use Rattle.edge_table.proofs.table.EdgeTable.write.Goals as goal
 use Rattle.edge_table.proofs.table.EdgeTable.write.Goals.{After-from-from, After-index-old, After-to-to}
@@ -52,21 +51,21 @@ beq-same false false same = refl
 
 -- ---- the lists of its places
 
-from_is : (c : After-from-from) → c.from-from.result.now ≡ edges_from c.self.inside.edges.items c.args.edge.owner
+from_is : (c : After-from-from) → c.from-from.result.now ≡ ends_from c.self.inside.edges.items c.args.edge.owner
 from_is c =
     let places = c.self.inside.places.items in
     let some = subst (λ (t : Edges). c.args.number < length t.edges) (sym c.self.view_is) c.requires.some in
     let owner = subst (λ (t : Edges). c.args.edge.owner ≡ (edge_at t c.args.number).owner) (sym c.self.view_is) c.requires.owner in
     let end : c.args.edge.owner < length places = subst (λ n. n < length places) (sym owner) (All-get_or (λ e. (e.owner < length places) × (e.target < length places)) c.self.inside.edges.items c.args.number no_edge some c.self.invariant.0.ends).0 in
-    list-read from_of (edges_from c.self.inside.edges.items) places c.args.edge.owner c.index.result.now c.from-from.result.now end c.index.ensures c.from-from.ensures c.self.invariant.0.from
+    list-read from_of (ends_from c.self.inside.edges.items) places c.args.edge.owner c.index.result.now c.from-from.result.now end c.index.ensures c.from-from.ensures c.self.invariant.0.from
 
-to_is : (c : After-to-to) → c.to-to.result.now ≡ edges_to c.self.inside.edges.items c.args.edge.target
+to_is : (c : After-to-to) → c.to-to.result.now ≡ ends_to c.self.inside.edges.items c.args.edge.target
 to_is c =
     let places = c.self.inside.places.items in
     let some = subst (λ (t : Edges). c.args.number < length t.edges) (sym c.self.view_is) c.requires.some in
     let target = subst (λ (t : Edges). c.args.edge.target ≡ (edge_at t c.args.number).target) (sym c.self.view_is) c.requires.target in
     let end : c.args.edge.target < length places = subst (λ n. n < length places) (sym target) (All-get_or (λ e. (e.owner < length places) × (e.target < length places)) c.self.inside.edges.items c.args.number no_edge some c.self.invariant.0.ends).1 in
-    list-read to_of (edges_to c.self.inside.edges.items) places c.args.edge.target c.index-2.result.now c.to-to.result.now end c.index-2.ensures c.to-to.ensures c.self.invariant.0.to
+    list-read to_of (ends_to c.self.inside.edges.items) places c.args.edge.target c.index-2.result.now c.to-to.result.now end c.index-2.ensures c.to-to.ensures c.self.invariant.0.to
 
 -- ---- the goals
 
@@ -78,25 +77,25 @@ invariant_of-self c =
       (
         found here,
         record {
-          from = parted-same owner_of refl c.self.inside.edges.items c.args.number c.args.edge (inside here) (owners_stay here) c.self.inside.by_owner same c.self.invariant.1.1.from;
-          to = parted-same target_of refl c.self.inside.edges.items c.args.number c.args.edge (inside here) (targets_stay here) c.self.inside.by_target same c.self.invariant.1.1.to;
+          from = parted-same owner_of target_of refl c.self.inside.edges.items c.args.number c.args.edge (inside here) refl (owners_stay here) (targets_stay here) c.self.inside.by_owner same c.self.invariant.1.1.from;
+          to = parted-same target_of owner_of refl c.self.inside.edges.items c.args.number c.args.edge (inside here) refl (targets_stay here) (owners_stay here) c.self.inside.by_target same c.self.invariant.1.1.to;
         },
       ),
     )
 
 pub set-requires-clause-rising : goal.set-requires-clause-rising
 set-requires-clause-rising c =
-    list-rising owner_of refl c.self.inside.edges.items c.args.edge.owner c.from-from.result.now (from_is (goal.at.set-requires-clause-rising c).After-from-from)
+    list-rising owner_of target_of refl c.self.inside.edges.items c.args.edge.owner c.from-from.result.now (from_is (goal.at.set-requires-clause-rising c).After-from-from)
 
 pub set-requires-clause-among : goal.set-requires-clause-among
 set-requires-clause-among c =
     let here = goal.at.set-requires-clause-among c in
-    subst (λ ns. IsAmong c.args.number ns) (sym (from_is here.After-from-from))
-    ((listed owner_of refl c.self.inside.edges.items c.args.edge.owner c.args.number).1 (inside here.After-index-old, sym (owner_is here.After-index-old)))
+    subst (λ ns. IsAmong c.args.number (numbers_in ns)) (sym (from_is here.After-from-from))
+    (listed_back owner_of target_of refl c.self.inside.edges.items c.args.edge.owner c.args.number (inside here.After-index-old, sym (owner_is here.After-index-old)))
 
 pub set-requires-clause-few : goal.set-requires-clause-few
 set-requires-clause-few c =
-    let few = list-few owner_of refl c.self.inside.edges.items c.args.edge.owner c.from-from.result.now (from_is (goal.at.set-requires-clause-few c).After-from-from) in
+    let few = list-few owner_of target_of refl c.self.inside.edges.items c.args.edge.owner c.from-from.result.now (from_is (goal.at.set-requires-clause-few c).After-from-from) in
     let bound = c.self.invariant.0.few_edges in
     omega arith
 
@@ -109,17 +108,17 @@ set-requires-clause-kept c = (
 
 pub set-requires-2-clause-rising : goal.set-requires-2-clause-rising
 set-requires-2-clause-rising c =
-    list-rising target_of refl c.self.inside.edges.items c.args.edge.target c.to-to.result.now (to_is (goal.at.set-requires-2-clause-rising c).After-to-to)
+    list-rising target_of owner_of refl c.self.inside.edges.items c.args.edge.target c.to-to.result.now (to_is (goal.at.set-requires-2-clause-rising c).After-to-to)
 
 pub set-requires-2-clause-among : goal.set-requires-2-clause-among
 set-requires-2-clause-among c =
     let here = goal.at.set-requires-2-clause-among c in
-    subst (λ ns. IsAmong c.args.number ns) (sym (to_is here.After-to-to))
-    ((listed target_of refl c.self.inside.edges.items c.args.edge.target c.args.number).1 (inside here.After-index-old, sym (target_is here.After-index-old)))
+    subst (λ ns. IsAmong c.args.number (numbers_in ns)) (sym (to_is here.After-to-to))
+    (listed_back target_of owner_of refl c.self.inside.edges.items c.args.edge.target c.args.number (inside here.After-index-old, sym (target_is here.After-index-old)))
 
 pub set-requires-2-clause-few : goal.set-requires-2-clause-few
 set-requires-2-clause-few c =
-    let few = list-few target_of refl c.self.inside.edges.items c.args.edge.target c.to-to.result.now (to_is (goal.at.set-requires-2-clause-few c).After-to-to) in
+    let few = list-few target_of owner_of refl c.self.inside.edges.items c.args.edge.target c.to-to.result.now (to_is (goal.at.set-requires-2-clause-few c).After-to-to) in
     let bound = c.self.invariant.0.few_edges in
     omega arith
 
@@ -140,9 +139,9 @@ invariant_of-self-2 c =
       (
         found here,
         record {
-          from = parted-set owner_of refl edges c.args.number c.args.edge (inside here) (owners_stay here) c.self.inside.by_owner c.set.new.self c.args.edge.owner c.from-from.result.now (from_is all.After-from-from) (sym (owner_is here)) c.self.invariant.1.1.from
+          from = parted-set owner_of target_of refl edges c.args.number c.args.edge (inside here) refl (owners_stay here) (targets_stay here) c.self.inside.by_owner c.set.new.self c.args.edge.owner c.from-from.result.now (from_is all.After-from-from) (sym (owner_is here)) c.self.invariant.1.1.from
               (λ before after at. c.set.ensures.kept before after (subst (CountsAt before after c.args.number) (sym sign) at)) c.set.ensures.others;
-          to = parted-set target_of refl edges c.args.number c.args.edge (inside here) (targets_stay here) c.self.inside.by_target c.set-2.new.self c.args.edge.target c.to-to.result.now (to_is all.After-to-to) (sym (target_is here)) c.self.invariant.1.1.to
+          to = parted-set target_of owner_of refl edges c.args.number c.args.edge (inside here) refl (targets_stay here) (owners_stay here) c.self.inside.by_target c.set-2.new.self c.args.edge.target c.to-to.result.now (to_is all.After-to-to) (sym (target_is here)) c.self.invariant.1.1.to
               (λ before after at. c.set-2.ensures.kept before after (subst (CountsAt before after c.args.number) (sym sign) at)) c.set-2.ensures.others;
         },
       ),
