@@ -1,6 +1,7 @@
 -- Names that are sorted, each kept once, and rows that count alike: how many different actors there are.
-use Rattle.std.proofs.Common.{◌≡◌, ◌||◌, ◌+◌, ◌≤◌, suc, Bool, true, false, cond, List, [], ◌∷◌, length, length-append, refl, sym, ◌∙◌, ap, arith}
+use Rattle.std.proofs.Common.{◌≡◌, ◌||◌, ◌+◌, ◌≤◌, suc, Bool, true, false, cond, List, [], ◌∷◌, ◌++◌, length, map, length-append, refl, sym, ◌∙◌, ap, arith}
 use Rattle.std.proofs.lemmas.List.{length-map}
+use Rattle.std.proofs.lemmas.List.Folds.{list_any-append}
 use Rattle.std.proofs.lemmas.List.Sorted.{list_any-IsPermutation}
 use Rattle.std.specs.Bool.{⊤}
 use Rattle.std.specs.List.{dedup, dedup_from, list_any}
@@ -71,6 +72,41 @@ count-different names sorted left moved up is =
     (λ a h. (rising-among a names).1 ((among-decides names a).0 (sym (same a) ∙ (among-decides ys a).1 h)))
     (λ a h. (among-decides ys a).0 (same a ∙ (among-decides names a).1 ((rising-among a names).0 h))) in
     ap length (is ∙ all)
+
+-- ---- owners apart from targets
+
+-- the owners of the pairs, and then their targets
+abbrev ends_apart : List PairCount → List Actor
+ends_apart rows = map (λ r. r.owner) rows ++ map (λ r. r.target) rows
+
+-- the rows' names, the owners of each section apart from its targets
+abbrev pub names_apart : Ledger → List Actor
+names_apart l = map (λ r. r.actor) l.states ++ (map (λ r. r.actor) l.sent ++ (ends_apart l.created ++ ends_apart l.released))
+
+swapped : (v w o t : Bool) → ((v || o) || (w || t)) ≡ (v || (w || (o || t)))
+swapped true w o t = refl
+swapped false true true t = refl
+swapped false false true t = refl
+swapped false w false t = refl
+
+-- they name the same actors
+pairs-named : (a : Actor) (rows : List PairCount) → (is_named a (map (λ r. r.owner) rows) || is_named a (map (λ r. r.target) rows)) ≡ is_named a (pair_names rows)
+pairs-named a [] = refl
+pairs-named a (r ∷ rows) =
+    swapped (same_actor a r.owner) (same_actor a r.target) (is_named a (map (λ r. r.owner) rows)) (is_named a (map (λ r. r.target) rows))
+    ∙ ap (λ v. same_actor a r.owner || (same_actor a r.target || v)) (pairs-named a rows)
+
+names-named : (a : Actor) (l : Ledger) → is_named a (names_apart l) ≡ is_named a (ledger_names l)
+names-named a l =
+    let created = pairs-named a l.created in
+    let released = pairs-named a l.released in
+    simp (list_any-append, created, released)
+
+pub names_apart-same : (l : Ledger) → rising_actors (names_apart l) ≡ rising_actors (ledger_names l)
+names_apart-same l =
+    rising_actors-same (names_apart l) (ledger_names l)
+    (λ a h. (among-decides (ledger_names l) a).0 (sym (names-named a l) ∙ (among-decides (names_apart l) a).1 h))
+    (λ a h. (among-decides (names_apart l) a).0 (names-named a l ∙ (among-decides (ledger_names l) a).1 h))
 
 -- ---- how many names there are
 

@@ -109,24 +109,24 @@ fn sorted(names: Vec<ActorId>) -> Result<Vec<ActorId>, NoMemory>
     }
 }
 
-/// The table of the actors that a Delta names.
-fn delta_table(alloc: Global, d: &Delta) -> Result<Vec<ActorId>, NoMemory>
+/// The table of the actors that a Delta names, in the room of these names, of which there is none.
+fn delta_table(mut names: Vec<ActorId>, d: &Delta) -> Result<Vec<ActorId>, NoMemory>
+    requires { names.items ≡ [] }
     ensures value { IfOk result (λ v. v.items ≡ table_of (delta_names d.now)) }
     ensures actors { OnOk result (AllByRecursion IsActor (delta_names d.now)) }
     ensures rises { OnOk result (DeltaRises d.now) }
 {
-    let mut names = Vec::new(alloc);
     push_delta(&mut names, d)?;
     sorted(names)
 }
 
-/// The table of the actors that a Window or a Final names.
-fn window_table(alloc: Global, w: &Window) -> Result<Vec<ActorId>, NoMemory>
+/// The table of the actors that a Window or a Final names, in the room of these names, of which there is none.
+fn window_table(mut names: Vec<ActorId>, w: &Window) -> Result<Vec<ActorId>, NoMemory>
+    requires { names.items ≡ [] }
     ensures value { IfOk result (λ v. v.items ≡ table_of (window_names w.now)) }
     ensures actors { OnOk result (AllByRecursion IsActor (window_names w.now)) }
     ensures rises { OnOk result (WindowRises w.now) }
 {
-    let mut names = Vec::new(alloc);
     push_window(&mut names, w)?;
     sorted(names)
 }
@@ -137,9 +137,30 @@ pub fn table(alloc: Global, b: &Bulletin) -> Result<Vec<ActorId>, NoMemory>
     ensures actors { OnOk result (AllByRecursion IsActor (names_of b.now)) }
     ensures rises { OnOk result (KeysRise b.now) }
 {
+    // A row names two actors at most.
+    let room = row_count(b).saturating_mul(2);
+    let Ok(names) = Vec::with_capacity(alloc, room) else {
+        return Err(NoMemory);
+    };
     match b {
-        Bulletin::Delta(d) => delta_table(alloc, d),
-        Bulletin::Window(w) => window_table(alloc, w),
-        Bulletin::Final(w) => window_table(alloc, w),
+        Bulletin::Delta(d) => delta_table(names, d),
+        Bulletin::Window(w) => window_table(names, w),
+        Bulletin::Final(w) => window_table(names, w),
+    }
+}
+
+/// How many rows the bulletin has.
+pub fn row_count(b: &Bulletin) -> usize {
+    match b {
+        Bulletin::Delta(d) => d
+            .states
+            .len()
+            .saturating_add(d.sent.len())
+            .saturating_add(d.created.len())
+            .saturating_add(d.released.len()),
+        Bulletin::Window(w) | Bulletin::Final(w) => w
+            .messages
+            .len()
+            .saturating_add(w.carried.len()),
     }
 }

@@ -4,10 +4,10 @@ ghost use Rattle.byteorder.specs.Endian.{big_bytes};
 ghost use Rattle.crgc_ids.specs.Actor.{IsActorBelow};
 ghost use Rattle.crgc_ids.specs.Rising.{IsRising};
 ghost use Rattle.wire_grammar.specs.Named.{index_of};
-ghost use Rattle.wire_grammar.specs.Spelling.{index_len, actor_text, index_text, state_text, count_text, pair_text, table_text, states_text, counts_text, pairs_text, head_text, delta_text, window_text, spelled};
+ghost use Rattle.wire_grammar.specs.Spelling.{index_len, actor_text, state_text, count_text, pair_text, table_text, states_text, counts_text, pairs_text, head_text, delta_text, window_text, spelled};
 ghost use Rattle.graph_wire.specs.Writable.{IsWritable, DeltaHasRoom, WindowHasRoom};
 
-use crate::names::table;
+use crate::names::{row_count, table};
 use crgc_ids::{ActorCount, ActorId, NoMemory, Octets, PairCount};
 use history_model::{Bulletin, Delta, StateRow, Window};
 use std::alloc::Global;
@@ -42,8 +42,8 @@ fn put_len(out: &mut Vec<u8>, wide: bool, number: usize) -> Result<(), NoMemory>
 fn put_actor(out: &mut Vec<u8>, actor: ActorId) -> Result<(), NoMemory>
     ensures { OnOk result (out.new.items ≡ out.old.items ++ actor_text actor) }
 {
-    put(out, &actor.node().get().to_be_bytes())?;
-    put_u32(out, actor.serial())
+    let [a, b, c, d] = actor.serial().to_be_bytes();
+    put(out, &[actor.node().get(), a, b, c, d])
 }
 
 fn put_table(out: &mut Vec<u8>, wide: bool, table: &[ActorId]) -> Result<(), NoMemory>
@@ -121,25 +121,7 @@ fn index_near(table: &[ActorId], place: usize, actor: ActorId) -> usize
     }
 }
 
-/// Puts an actor's index, which may be near a place, and answers it.
-fn put_index(
-    out: &mut Vec<u8>,
-    wide: bool,
-    table: &[ActorId],
-    near: usize,
-    actor: ActorId,
-) -> Result<usize, NoMemory>
-    requires rises { IsRising IsActorBelow table.now }
-    requires room { length table.now < 256 ^ index_len wide }
-    ensures text { OnOk result (out.new.items ≡ out.old.items ++ index_text wide table.now actor) }
-    ensures index { IfOk result (λ i. i ≡ index_of table.now actor) }
-{
-    let index = index_near(table, near, actor);
-    put_len(out, wide, index)?;
-    Ok(index)
-}
-
-/// Puts a state, and answers its actor's index.
+/// Puts a state by one call, and answers its actor's index. The narrow form has the low two of the index's four bytes.
 fn put_state(
     out: &mut Vec<u8>,
     wide: bool,
@@ -152,13 +134,19 @@ fn put_state(
     ensures text { OnOk result (out.new.items ≡ out.old.items ++ state_text wide table.now row) }
     ensures index { IfOk result (λ i. i ≡ index_of table.now row.actor) }
 {
-    let index = put_index(out, wide, table, near, row.actor)?;
-    put_u32(out, row.received)?;
-    put(out, &[u8::from(row.busy) + 2 * u8::from(row.root)])?;
+    let index = index_near(table, near, row.actor);
+    let flags = u8::from(row.busy) + 2 * u8::from(row.root);
+    let [a, b, c, d] = (index as u32).to_be_bytes();
+    let [e, f, g, h] = row.received.to_be_bytes();
+    if wide {
+        put(out, &[a, b, c, d, e, f, g, h, flags])?;
+    } else {
+        put(out, &[c, d, e, f, g, h, flags])?;
+    }
     Ok(index)
 }
 
-/// Puts a count, and answers its actor's index.
+/// Puts a count by one call, and answers its actor's index.
 fn put_count(
     out: &mut Vec<u8>,
     wide: bool,
@@ -171,8 +159,14 @@ fn put_count(
     ensures text { OnOk result (out.new.items ≡ out.old.items ++ count_text wide table.now row) }
     ensures index { IfOk result (λ i. i ≡ index_of table.now row.actor) }
 {
-    let index = put_index(out, wide, table, near, row.actor)?;
-    put_u32(out, row.count)?;
+    let index = index_near(table, near, row.actor);
+    let [a, b, c, d] = (index as u32).to_be_bytes();
+    let [e, f, g, h] = row.count.to_be_bytes();
+    if wide {
+        put(out, &[a, b, c, d, e, f, g, h])?;
+    } else {
+        put(out, &[c, d, e, f, g, h])?;
+    }
     Ok(index)
 }
 
@@ -184,27 +178,21 @@ struct Near {
     target: usize,
 }
 
-/// Puts the index of a pair's target, which may be near that of its owner or of another target, and answers where the next
-/// target is looked for.
-fn put_target(
-    out: &mut Vec<u8>,
-    wide: bool,
-    table: &[ActorId],
-    near: Near,
-    target: ActorId,
-) -> Result<usize, NoMemory>
-    requires rises { IsRising IsActorBelow table.now }
-    requires room { length table.now < 256 ^ index_len wide }
-    ensures { OnOk result (out.new.items ≡ out.old.items ++ index_text wide table.now target) }
+/// The index of a pair's target, which may be near that of its owner or of another target, and where the next target is looked
+/// for.
+fn target_near(table: &[ActorId], near: Near, target: ActorId) -> (usize, usize)
+    requires { IsRising IsActorBelow table.now }
+    ensures value { result.0 ≡ index_of table.now target }
+    ensures bound { result.0 ≤ length table.now }
 {
     if let Some(index) = index_from(table, near.owner, target) {
-        put_len(out, wide, index)?;
-        return Ok(near.target);
+        return (index, near.target);
     }
-    put_index(out, wide, table, near.target, target)
+    let index = index_near(table, near.target, target);
+    (index, index)
 }
 
-/// Puts a pair, and answers where the next one is looked for.
+/// Puts a pair by one call, and answers where the next one is looked for.
 fn put_pair(
     out: &mut Vec<u8>,
     wide: bool,
@@ -216,14 +204,24 @@ fn put_pair(
     requires room { length table.now < 256 ^ index_len wide }
     ensures { OnOk result (out.new.items ≡ out.old.items ++ pair_text wide table.now row) }
 {
-    let owner = put_index(out, wide, table, near.owner, row.owner)?;
+    let owner = index_near(table, near.owner, row.owner);
     let at_owner = Near {
         owner,
         target: near.target,
     };
-    let target = put_target(out, wide, table, at_owner, row.target)?;
-    put_u32(out, row.count)?;
-    Ok(Near { owner, target })
+    let (target, next) = target_near(table, at_owner, row.target);
+    let [a, b, c, d] = (owner as u32).to_be_bytes();
+    let [e, f, g, h] = (target as u32).to_be_bytes();
+    let [i, j, k, l] = row.count.to_be_bytes();
+    if wide {
+        put(out, &[a, b, c, d, e, f, g, h, i, j, k, l])?;
+    } else {
+        put(out, &[c, d, g, h, i, j, k, l])?;
+    }
+    Ok(Near {
+        owner,
+        target: next,
+    })
 }
 
 fn put_states(
@@ -334,21 +332,6 @@ fn empty_text(alloc: Global, table: &[ActorId], b: &Bulletin) -> Result<Vec<u8>,
     match Vec::with_capacity(alloc, HEAD.saturating_add(actors).saturating_add(rows)) {
         Ok(text) => Ok(text),
         Err(_) => Err(NoMemory),
-    }
-}
-
-fn row_count(b: &Bulletin) -> usize {
-    match b {
-        Bulletin::Delta(d) => d
-            .states
-            .len()
-            .saturating_add(d.sent.len())
-            .saturating_add(d.created.len())
-            .saturating_add(d.released.len()),
-        Bulletin::Window(w) | Bulletin::Final(w) => w
-            .messages
-            .len()
-            .saturating_add(w.carried.len()),
     }
 }
 

@@ -10,7 +10,7 @@ use Rattle.crgc_ids.specs.Actor.{IsActor}
 pub returns-clause-value : goal.returns-clause-value
 returns-clause-value c =
     let order = members-table (pushed_delta c.args.d.now) (delta_names c.args.d.now) (members-delta c.args.d.now) in
-    let names = c.in_ok-push_delta.ensures.ok ∙ ap (λ xs. xs ++ pushed_delta c.args.d.now) c.new-names.ensures.items in
+    let names = c.in_ok-push_delta.ensures.ok ∙ ap (λ xs. xs ++ pushed_delta c.args.d.now) c.requires in
     subst (λ t. IfOk c.sorted.result (λ v. v.items ≡ t)) (ap table_of names ∙ order) c.sorted.ensures
 
 pub returns-clause-actors : goal.returns-clause-actors

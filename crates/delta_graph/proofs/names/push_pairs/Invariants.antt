@@ -1,6 +1,0 @@
-use Rattle.std.proofs.Common.{◌≡◌, ◌++◌, take}
-use Rattle.history_model.specs.Ledgers.{pair_names}
-use Rattle.delta_graph.proofs.names.push_pairs.Given as goal
-
-abbrev pub invariant-loop-row : goal.invariant-loop-row
-invariant-loop-row l = l.names.items ≡ l.fn.names.items ++ pair_names (take l.row-index l.rows)
