@@ -1,5 +1,6 @@
 //! Reading a line.
 ghost use Rattle.std.specs.Prelude.{◌≡◌};
+ghost use Rattle.std.specs.Str.{bytes_eq};
 ghost use Rattle.journal_model.specs.Reading.{actor_line, any_line, link_line, node_line, pair_line, read_line};
 ghost use Rattle.event_lines.specs.Reads.{Reads};
 
@@ -25,15 +26,15 @@ pub fn read(alloc: Global, line: &[u8]) -> Result<Line, LineRead>
 fn any_line(alloc: Global, word: &[u8], fields: Pieces<'_>) -> Result<Line, LineRead>
     ensures { Reads result (any_line word.now fields.entry) }
 {
-    if word == b"send".as_slice() {
+    if is(word, b"send") {
         let (from, to, refs) = fields.message(alloc)?;
         return Ok(Line::Event(Event::Send { from, to, refs }));
     }
-    if word == b"cut".as_slice() {
+    if is(word, b"cut") {
         let (node, counts, lost) = fields.cut_fields(alloc)?;
         return Ok(Line::Cut { node, counts, lost });
     }
-    if word == b"stop".as_slice() {
+    if is(word, b"stop") {
         let (by, stop) = fields.stop_fields(alloc)?;
         return Ok(Line::Stop { by, stop });
     }
@@ -45,27 +46,27 @@ fn any_line(alloc: Global, word: &[u8], fields: Pieces<'_>) -> Result<Line, Line
 fn actor_line(word: &[u8], fields: Pieces<'_>) -> Result<Line, LineFault>
     ensures { result ≡ actor_line word.now fields.entry }
 {
-    if word == b"wake".as_slice() {
+    if is(word, b"wake") {
         let actor = fields.one_actor()?;
         return Ok(Line::Event(Event::Wake { actor }));
     }
-    if word == b"take".as_slice() {
+    if is(word, b"take") {
         let actor = fields.one_actor()?;
         return Ok(Line::Event(Event::Take { actor }));
     }
-    if word == b"spawn".as_slice() {
+    if is(word, b"spawn") {
         let parent = fields.one_actor()?;
         return Ok(Line::Event(Event::Spawn { parent }));
     }
-    if word == b"retire".as_slice() {
+    if is(word, b"retire") {
         let actor = fields.one_actor()?;
         return Ok(Line::Event(Event::Retire { actor }));
     }
-    if word == b"rest".as_slice() {
+    if is(word, b"rest") {
         let actor = fields.one_actor()?;
         return Ok(Line::Event(Event::Rest { actor }));
     }
-    if word == b"flush".as_slice() {
+    if is(word, b"flush") {
         let actor = fields.one_actor()?;
         return Ok(Line::Event(Event::Flush { actor }));
     }
@@ -77,19 +78,19 @@ fn actor_line(word: &[u8], fields: Pieces<'_>) -> Result<Line, LineFault>
 fn node_line(word: &[u8], fields: Pieces<'_>) -> Result<Line, LineFault>
     ensures { result ≡ node_line word.now fields.entry }
 {
-    if word == b"seed".as_slice() {
+    if is(word, b"seed") {
         let node = fields.one_node()?;
         return Ok(Line::Event(Event::Seed { node }));
     }
-    if word == b"publish".as_slice() {
+    if is(word, b"publish") {
         let node = fields.one_node()?;
         return Ok(Line::Event(Event::Publish { node }));
     }
-    if word == b"crash".as_slice() {
+    if is(word, b"crash") {
         let node = fields.one_node()?;
         return Ok(Line::Event(Event::Crash { node }));
     }
-    if word == b"sweep".as_slice() {
+    if is(word, b"sweep") {
         let node = fields.one_node()?;
         return Ok(Line::Event(Event::Sweep { node }));
     }
@@ -101,19 +102,19 @@ fn node_line(word: &[u8], fields: Pieces<'_>) -> Result<Line, LineFault>
 fn pair_line(word: &[u8], fields: Pieces<'_>) -> Result<Line, LineFault>
     ensures { result ≡ pair_line word.now fields.entry }
 {
-    if word == b"tie".as_slice() {
+    if is(word, b"tie") {
         let (owner, target) = fields.two_actors()?;
         return Ok(Line::Event(Event::Tie { owner, target }));
     }
-    if word == b"drop".as_slice() {
+    if is(word, b"drop") {
         let (actor, target) = fields.two_actors()?;
         return Ok(Line::Event(Event::Drop { actor, target }));
     }
-    if word == b"window".as_slice() {
+    if is(word, b"window") {
         let (at, from) = fields.two_nodes()?;
         return Ok(Line::Event(Event::Window { at, from }));
     }
-    if word == b"remove".as_slice() {
+    if is(word, b"remove") {
         let (at, gone) = fields.two_nodes()?;
         return Ok(Line::Event(Event::Remove { at, gone }));
     }
@@ -125,25 +126,32 @@ fn pair_line(word: &[u8], fields: Pieces<'_>) -> Result<Line, LineFault>
 fn link_line(word: &[u8], fields: Pieces<'_>) -> Result<Line, LineFault>
     ensures { result ≡ link_line word.now fields.entry }
 {
-    if word == b"admit".as_slice() {
+    if is(word, b"admit") {
         let (from, at, number) = fields.link_number()?;
         return Ok(Line::Event(Event::Admit { from, at, number }));
     }
-    if word == b"lose".as_slice() {
+    if is(word, b"lose") {
         let (from, at, number) = fields.link_number()?;
         return Ok(Line::Event(Event::Lose { from, at, number }));
     }
-    if word == b"repeat".as_slice() {
+    if is(word, b"repeat") {
         let (from, at, number) = fields.link_number()?;
         return Ok(Line::Event(Event::Repeat { from, at, number }));
     }
-    if word == b"hand".as_slice() {
+    if is(word, b"hand") {
         let (to, origin, number) = fields.link_number()?;
         return Ok(Line::Event(Event::Hand { to, origin, number }));
     }
-    if word == b"end".as_slice() {
+    if is(word, b"end") {
         let (events, stopped) = fields.end_fields()?;
         return Ok(Line::End { events, stopped });
     }
     Err(LineFault::Word)
+}
+
+/// Whether the word is this one. Their first bytes alone tell most words apart.
+fn is(word: &[u8], name: &[u8]) -> bool
+    ensures { result ≡ bytes_eq word.now name.now }
+{
+    word.first() == name.first() && word == name
 }
