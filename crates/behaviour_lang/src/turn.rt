@@ -115,7 +115,9 @@ impl Turn {
         requires { self.ended ≡ true }
         ensures { local_names result ≡ self.names }
     {
-        self.run.names.locals
+        let run = self.run;
+        let names = run.names;
+        names.locals
     }
 }
 

@@ -5,4 +5,5 @@ pub mod LostNodes
 pub mod Members
 pub mod NodeFlags
 pub mod Nodes
+pub mod Refs
 pub mod Rising

@@ -7,13 +7,15 @@ pub mod laws;
 mod limits;
 mod lists;
 mod node_set;
+mod refs;
 mod rising;
 
 pub use cut::Cut;
 pub use ids::{ActorId, NodeId};
 pub use limits::{MOST_ACTORS, MOST_BYTES, MOST_EVENTS, MOST_NAMED};
-pub use lists::{ActorList, ItemList, Octets, RefList};
+pub use lists::{ActorList, ItemList, Octets};
 pub use node_set::NodeSet;
+pub use refs::RefList;
 pub use rising::{ActorCount, ActorCounts, PairCount, PairCounts, RisingList, Row};
 
 /// Want of memory: the allocator gave none.

@@ -106,9 +106,6 @@ impl<T> ItemList<T> {
     }
 }
 
-/// The references that a message carries.
-pub type RefList = ItemList<ActorId>;
-
 /// Actors in the order in which they were put in.
 pub type ActorList = ItemList<ActorId>;
 

@@ -7,7 +7,10 @@ use Rattle.std.proofs.MapsCrossingOver.{crosses as sets}
 use Rattle.turn_lock.specs.contracts.lock.TurnLock as TurnLock
 use Rattle.turn_lock.specs.contracts.pass.Pass as Pass
 use Rattle.turn_lock.proofs.Crossing.{pass_send, lock_sync}
+use Rattle.crgc_ids.specs.contracts.refs.RefList as RefList
 use Rattle.history_model.specs.contracts.history.History as History
+use Rattle.link_table.specs.contracts.table.LinkTable as LinkTable
+use Rattle.mailboxes.specs.contracts.mailboxes.Mailboxes as Mailboxes
 use Rattle.traffic.specs.contracts.traffic.Traffic as Traffic
 use Rattle.roster.specs.contracts.table.Roster as Roster
 use Rattle.bulletin_streams.specs.contracts.streams.BulletinStreams as Streams
@@ -24,8 +27,17 @@ use Rattle.world_object.specs.contracts.shared.SharedObject.TheImpl.{ghosts}
 history_send : IsSend History.the_row
 history_send = search (crosses, sendable) depth 60 fits 100000
 
+refs_send : IsSend RefList.the_row
+refs_send = search (crosses, sendable) depth 60 fits 100000
+
+links_send : IsSend LinkTable.the_row
+links_send = search (crosses, maps, sets, frees, sendable, refs_send) depth 60 fits 100000
+
+mail_send : IsSend Mailboxes.the_row
+mail_send = search (crosses, maps, sets, frees, sendable, refs_send) depth 60 fits 100000
+
 traffic_send : IsSend Traffic.the_row
-traffic_send = search (crosses, maps, sets, frees, sendable) depth 60 fits 100000
+traffic_send = search (crosses, maps, sets, frees, sendable, links_send, mail_send) depth 60 fits 100000
 
 roster_send : IsSend Roster.the_row
 roster_send = search (crosses, maps, sets, frees, sendable) depth 60 fits 100000
