@@ -14,11 +14,11 @@ use Rattle.history_model.specs.Ledgers.{ledger_names}
 use Rattle.history_model.specs.MoreFolded.{with_notice}
 use Rattle.history_model.specs.Streams.{Notice}
 use Rattle.history_model.specs.Tells.{bulletin_ledger}
-use Rattle.gossip_core.specs.Gossip.{IsFirstReady, TakesOut, kept_at, same_key}
+use Rattle.gossip_core.specs.Gossip.{TakesOut, kept_at, same_key}
 use Rattle.shadow_graph.specs.Stands.{IsGraphOf}
 use Rattle.shadow_graph.specs.Taken.{FoldsIn}
 use Rattle.shadow_table.specs.Shadows.{is_named}
-use Rattle.collector.specs.Collected.{Collected, IsFedBy, cut_of, folded_of, has_number, was_stopped}
+use Rattle.collector.specs.Collected.{Collected, IsFedBy, cut_of, folded_of, has_number, node_count, was_stopped}
 use Rattle.collector.specs.Kept.{IsKept}
 use Rattle.collector.specs.Refusals.{IsFit}
 use Rattle.collector.specs.Taking.{Folds, GoesOn}
@@ -34,11 +34,11 @@ key-other o k y apart = grind (arith, nat_tests)
 key-is : (o k y : ℕ) → same_key (o, k) (o, y) ≡ false → y ≢ k
 key-is o k y e same = grind (arith, nat_tests)
 
-module _ (old new : Collected) (o : ℕ) (b : Bulletin) (kept : IsKept old) (first : IsFirstReady old.order o b)
-    (out : TakesOut old.order new.order o) (folds : FoldsIn o b old.graph new.graph)
+module _ (old new : Collected) (o : ℕ) (b : Bulletin) (kept : IsKept old) (ready : kept_at old.order o (cut_of old o) ≡ Some b)
+    (node_below : o < node_count old) (fewer : cut_of old o < 1000000) (out : TakesOut old.order new.order o) (folds : FoldsIn o b old.graph new.graph)
     (node : new.node ≡ old.node) (stopped : new.stopped ≡ old.stopped) where
   inside : o < length old.order.cut
-  inside = (let len = kept.long in let few = kept.few in let less = first.node in omega arith)
+  inside = (let len = kept.long in let few = kept.few in let less = node_below in omega arith)
 
   cut-here : cut_of new o ≡ cut_of old o + 1
   cut-here = ap (λ c. get_or c o 0) out.cut ∙ get_or-set_same old.order.cut o (cut_of old o + 1) 0 inside
@@ -73,7 +73,7 @@ module _ (old new : Collected) (o : ℕ) (b : Bulletin) (kept : IsKept old) (fir
             let one = one-key o (cut_of old o) x y same in
             (λ i. has_number new (one.0 i) (one.1 i))
             ∙ or-left (ltb (cut_of old o) (cut_of new o)) (is_some (kept_at new.order o (cut_of old o))) (let here = cut-here in is-below (cut_of old o) (cut_of new o) (omega arith))
-            ∙ sym (or-right (ltb (cut_of old o) (cut_of old o)) (is_some (kept_at old.order o (cut_of old o))) (ap is_some first.ready))
+            ∙ sym (or-right (ltb (cut_of old o) (cut_of old o)) (is_some (kept_at old.order o (cut_of old o))) (ap is_some ready))
             ∙ (λ i. has_number old (sym one.0 i) (sym one.1 i))
             )
         | false ↦ λ apart. (
@@ -122,7 +122,7 @@ module _ (old new : Collected) (o : ℕ) (b : Bulletin) (kept : IsKept old) (fir
 
   folds-fed : (cl : Cluster) (streams : Fold) → IsFedBy cl streams old → IsFedBy cl streams new
   folds-fed cl streams fed =
-      let told = fed.waiting o (cut_of old o) b first.ready in
+      let told = fed.waiting o (cut_of old o) b ready in
       let next = told.1 in
       record {
         nodes = out.nodes ∙ fed.nodes;
@@ -137,7 +137,7 @@ module _ (old new : Collected) (o : ℕ) (b : Bulletin) (kept : IsKept old) (fir
         ];
         beyond = λ x far. (
             let nodes = fed.nodes in
-            let less = first.node in
+            let less = node_below in
             let apart : x ≢ o = (λ same. absurd (omega arith)) in
             cut-there x apart ∙ fed.beyond x far
             );
@@ -158,11 +158,11 @@ module _ (old new : Collected) (o : ℕ) (b : Bulletin) (kept : IsKept old) (fir
         few = subst (λ n. n ≤ 16) (sym nodes) kept.few;
         long = ap length out.cut ∙ length-set old.order.cut o (cut_of old o + 1) ∙ kept.long;
         counts = λ x. elim (cases_eq x o) [
-          | inl same ↦ (let is = ap (cut_of new) same in let here = cut-here in let below = first.below in omega arith)
+          | inl same ↦ (let is = ap (cut_of new) same in let here = cut-here in let below = fewer in omega arith)
           | inr apart ↦ subst (λ n. n ≤ 1000000) (sym (cut-there x apart)) (kept.counts x)
         ];
         beyond = λ x far. (
-            let less = first.node in
+            let less = node_below in
             let apart : x ≢ o = (λ same. absurd (omega arith)) in
             cut-there x apart ∙ kept.beyond x (subst (λ n. n ≤ x) nodes far)
             );

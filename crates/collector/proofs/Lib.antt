@@ -1,6 +1,7 @@
 pub mod NumberLemmas
 pub mod KeepLemmas
 pub mod FoldLemmas
+pub mod UnkeptLemmas
 pub mod TakeLemmas
 pub mod SweepLemmas
 pub mod HistoryLemmas

@@ -21,8 +21,8 @@ use Rattle.collector.specs.declared.read.TakeFault.TheVariants as faults
 use Rattle.collector.specs.Collected.{Collected, IsNew, cut_of, folded_of, has_number}
 use Rattle.collector.specs.Kept.{IsKept}
 use Rattle.collector.specs.Refusals.{IsRefusal, fault_of, is_foreign, judged, read_as}
-use Rattle.collector.specs.Taking.{Folds, IsTaken, Keeps, Takes}
-use Rattle.collector.proofs.FoldLemmas.{folds-none, goes_on-more}
+use Rattle.collector.specs.Taking.{Admits, Folds, IsTaken, Takes}
+use Rattle.collector.proofs.FoldLemmas.{folds-more, folds-none, goes_on-more}
 use Rattle.collector.proofs.KeepLemmas.{keeps-fed, keeps-going_on, kept-numbers, kept-there}
 use Rattle.collector.proofs.NumberLemmas.{is-below, is-from, or-left}
 
@@ -97,25 +97,28 @@ takes-none o k bytes c = record {
   fed = λ cl streams given fed. fed;
 }
 
--- a bulletin is kept, and some are folded
+-- a bulletin is taken, and some that waited are folded
 pub takes-one : (o k : ℕ) (bytes : List ℕ) (b : Bulletin) (old mid new : Collected)
-    → ((c : Bulletin) → IsSpellable c → bytes ≡ spelled c → c ≡ b) → Keeps old mid o k b → Folds mid new → Takes o k bytes old new
-takes-one o k bytes b old mid new only keeps folds =
-    let numbers : (x y : ℕ) → has_number new x y ≡ (has_number old x y || same_key (o, k) (x, y)) = λ x y. folds.numbers x y ∙ kept-numbers old mid o k b keeps x y in
+    → ((c : Bulletin) → IsSpellable c → bytes ≡ spelled c → c ≡ b) → Admits old mid o k b → Folds mid new → Takes o k bytes old new
+takes-one o k bytes b old mid new only (waiting, keeps, first) rest =
+    let folds = folds-more waiting mid new first rest in
+    let numbers : (x y : ℕ) → has_number new x y ≡ (has_number old x y || same_key (o, k) (x, y)) = λ x y.
+    folds.numbers x y ∙ kept-numbers old waiting o k b keeps x y in
     record {
-      goes_on = goes_on-more old mid new (keeps-going_on old mid o k b keeps) folds.goes_on;
+      goes_on = goes_on-more old waiting new (keeps-going_on old waiting o k b keeps) folds.goes_on;
       had = λ x y is. numbers x y ∙ or-left (has_number old x y) (same_key (o, k) (x, y)) is;
       has = λ x y is. sym (numbers x y) ∙ is;
       fed = λ cl streams given fed. folds.fed cl streams (
-          keeps-fed old mid o k b keeps cl streams
+          keeps-fed old waiting o k b keeps cl streams
           (λ fresh. (let is = given fresh in (is.0, is.1, subst (λ d. Tells o d is.0) (only is.2.0 is.2.1 is.2.2) is.2.3)))
           fed
           );
     }
 
--- the bulletin is there then, and whatever is ready is folded
-pub takes-there : (o k : ℕ) (b : Bulletin) (old mid new : Collected) → Keeps old mid o k b → Folds mid new → has_number new o k ≡ true
-takes-there o k b old mid new keeps folds = folds.numbers o k ∙ kept-there old mid o k b keeps
+-- its number is there then
+pub takes-there : (o k : ℕ) (b : Bulletin) (old mid new : Collected) → Admits old mid o k b → Folds mid new → has_number new o k ≡ true
+takes-there o k b old mid new (waiting, keeps, first) rest =
+    rest.numbers o k ∙ first.numbers o k ∙ kept-there old waiting o k b keeps
 
 -- a number that is there, of a bulletin that is not folded, waits above the cut
 pub waits-above : (c : Collected) (o k : ℕ) → IsTaken o k c → cut_of c o ≤ k → cut_of c o < k

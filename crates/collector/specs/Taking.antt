@@ -39,6 +39,10 @@ pub record Keeps (old new : Collected) (origin number : ℕ) (b : Bulletin) : Ty
   pub graph : new.graph ≡ old.graph
   pub order : KeepsFirst old.order new.order origin number b
 
+-- the bulletin is taken: it waits, unless one of its number waits or is folded, and then bulletins that wait may be folded
+abbrev pub Admits : Collected → Collected → ℕ → ℕ → Bulletin → Type 0
+Admits old new origin number b = (mid : Collected) × Keeps old mid origin number b × Folds mid new
+
 -- the bytes spell a bulletin that tells the notice
 abbrev pub SpellsNotice : ℕ → List ℕ → Notice → Type 0
 SpellsNotice origin bytes n = (b : Bulletin) × IsSpellable b × (bytes ≡ spelled b) × Tells origin b n

@@ -1,16 +1,16 @@
 //! The collector.
-ghost use Rattle.std.specs.Prelude.{◌≡◌, ◌++◌, ◌+◌, ◌<◌, ◌≤◌, true, false, Ok, IfErr, IfOk, OnErr, OnOk, length, sum};
+ghost use Rattle.std.specs.Prelude.{◌≡◌, ◌++◌, ◌+◌, ◌<◌, ◌≤◌, true, false, None, Ok, IfErr, IfOk, OnErr, OnOk, length, sum};
 ghost use Rattle.std.specs.List.{AllByRecursion};
 ghost use Rattle.crgc_ids.specs.Actor.{Actor};
-ghost use Rattle.gossip_core.specs.Gossip.{IsFirstMissing};
+ghost use Rattle.gossip_core.specs.Gossip.{IsFirstMissing, kept_at};
 ghost use Rattle.pseudoroot_trace.specs.Marked.{IsSweepBy};
 ghost use Rattle.pseudoroot_trace.specs.Traced.{is_marked_in};
 ghost use Rattle.shadow_graph.specs.Seen.{is_dropped};
 ghost use Rattle.shadow_table.specs.Shadows.{is_named};
-ghost use Rattle.collector.specs.Collected.{IsNew, IsSettled, has_number, node_count, was_stopped};
+ghost use Rattle.collector.specs.Collected.{IsNew, IsSettled, cut_of, has_number, node_count, was_stopped};
 ghost use Rattle.collector.specs.Refusals.{IsFit, IsRefusal, read_as};
 ghost use Rattle.collector.specs.Sweeping.{Compacts, Finds, SetsFlags, Sweeps};
-ghost use Rattle.collector.specs.Taking.{Folds, IsAnswer, IsTaken, Keeps, LeavesAsWas, Takes};
+ghost use Rattle.collector.specs.Taking.{Admits, Folds, IsAnswer, IsTaken, Keeps, LeavesAsWas, Takes};
 ghost use Rattle.collector.specs.Traced.{DropsAll, HaveFallen, TakesSome};
 ghost use Rattle.crgc_ids.specs.declared.limits.TheConstants.{MOST_EVENTS};
 
@@ -158,12 +158,13 @@ impl Collector {
             Ok(b) => b,
             Err(fault) => return Err(fault),
         };
-        if self.keep(origin, number, b).is_err() {
-            return Err(TakeFault::NoMemory);
-        }
+        let first = match self.admit(origin, number, b) {
+            Ok(first) => first,
+            Err(_) => return Err(TakeFault::NoMemory),
+        };
         match self.fold_ready() {
-            Ok(0) => Ok(self.unfolded(origin, number)),
-            Ok(count) => Ok(Taken::Folded(count)),
+            Ok(0) if first == 0 => Ok(self.unfolded(origin, number)),
+            Ok(rest) => Ok(Taken::Folded(first + rest)),
             Err(_) => Err(TakeFault::NoMemory),
         }
     }
@@ -178,6 +179,43 @@ impl Collector {
         } else {
             Taken::Waiting
         }
+    }
+
+    /// The bulletin is folded where it is the next one of its origin and none of its number waits; else it waits, unless one of its
+    /// number was taken before. How many were folded is told. After `NoMemory` all is as before.
+    fn admit(&mut self, origin: NodeId, number: u32, b: Bulletin) -> Result<u32, NoMemory>
+        requires origin { origin < node_count self.old }
+        requires number { number < MOST_EVENTS }
+        requires fits { IsFit (node_count self.old) origin b }
+        ensures admits { OnOk result (Admits self.old self.new origin number b) }
+        ensures count { IfOk result (λ n. sum self.new.order.cut ≡ sum self.old.order.cut + n) }
+        ensures err { OnErr result (self.new ≡ self.old) }
+    {
+        let is_next = number == self.cut().at(origin);
+        if is_next && !self.has_taken(origin, number) {
+            self.fold_unkept(origin, &b)?;
+            return Ok(1);
+        }
+        self.keep(origin, number, b)?;
+        Ok(0)
+    }
+
+    /// The bulletin, the next one of its origin, is folded without waiting. After `NoMemory` all is as before. Beside the fold it
+    /// takes constant time and no memory.
+    fn fold_unkept(&mut self, origin: NodeId, b: &Bulletin) -> Result<(), NoMemory>
+        requires origin { origin < node_count self.old }
+        requires fewer { cut_of self.old origin < MOST_EVENTS }
+        requires missing { kept_at self.old.order origin (cut_of self.old origin) ≡ None }
+        requires fits { IsFit (node_count self.old) origin b.now }
+        ensures admits { OnOk result (Admits self.old self.new origin (cut_of self.old origin) b.now) }
+        ensures one { OnOk result (sum self.new.order.cut ≡ sum self.old.order.cut + 1) }
+        ensures err { OnErr result (self.new ≡ self.old) }
+    {
+        if self.graph.fold(origin, b).is_err() {
+            return Err(NoMemory);
+        }
+        self.order.pass(origin);
+        Ok(())
     }
 
     /// The bulletin waits, unless one of its number was taken before. After `NoMemory` all is as before.
@@ -198,6 +236,7 @@ impl Collector {
     fn fold_ready(&mut self) -> Result<u32, NoMemory>
         ensures folds { Folds self.old self.new }
         ensures count { IfOk result (λ n. sum self.new.order.cut ≡ sum self.old.order.cut + n) }
+        ensures bounded { sum self.new.order.cut ≤ 16000000 }
         ensures settled { OnOk result (IsSettled self.new) }
     {
         let mut count = 0;

@@ -68,6 +68,10 @@ pub record TakesOut (old new : Gossip) (origin : ℕ) : Type 0 where
   pub others : (o k : ℕ) → same_key (origin, count_at old origin) (o, k) ≡ false → kept_at new o k ≡ kept_at old o k
   pub fewer : length new.kept + 1 ≡ length old.kept
 
+-- the cut of the origin is one higher; all else is as it was
+abbrev pub Passes : Gossip → Gossip → ℕ → Type 0
+Passes old new origin = new ≡ record old { cut = slice_set old.cut origin (count_at old origin + 1) }
+
 -- the first number of the origin from its cut on under which nothing is kept
 pub record IsFirstMissing (g : Gossip) (origin number : ℕ) : Type 0 where
   pub from : count_at g origin ≤ number

@@ -1,6 +1,6 @@
 //! The bulletins that wait for those before them.
 ghost use Rattle.std.specs.Prelude.{◌≡◌, ◌+◌, ◌<◌, ◌≤◌, ℕ, [], None, IfNone, IfOk, IfSome, IsSome, OnErr, OnOk, length, replicate, slice_set};
-ghost use Rattle.gossip_core.specs.Gossip.{IsAnswer, IsFirstReady, IsFirstMissing, KeepsFirst, TakesOut, count_at, kept_at, was_offered};
+ghost use Rattle.gossip_core.specs.Gossip.{IsAnswer, IsFirstReady, IsFirstMissing, KeepsFirst, Passes, TakesOut, count_at, kept_at, was_offered};
 ghost use Rattle.crgc_ids.specs.declared.limits.TheConstants.{MOST_EVENTS};
 
 use crgc_ids::{Cut, MOST_EVENTS, NoMemory, NodeId};
@@ -96,11 +96,14 @@ impl GossipCore {
     }
 
     /// The kept bulletin at the cut of its origin, with that origin, which is the lowest that has one; None exactly where none
-    /// has. Logarithmic time in the number of kept bulletins, for each node.
+    /// has. Logarithmic time in the number of kept bulletins, for each node; constant time where nothing is kept.
     pub fn first_ready(&self) -> Option<(NodeId, &Bulletin)>
         ensures some { IfSome result (λ r. IsFirstReady self.now r.0 r.1.now) }
         ensures none { IfNone result ((origin : ℕ) → kept_at self.now origin (count_at self.now origin) ≡ None) }
     {
+        if self.kept.is_empty() {
+            return None;
+        }
         for number in 0..self.nodes {
             let origin = node(number);
             if let Some(b) = self.kept.get(&(origin, self.cut.at(origin))) {
@@ -117,6 +120,17 @@ impl GossipCore {
         ensures { TakesOut self.old self.new origin }
     {
         self.kept.remove(&(origin, self.cut.at(origin)));
+        self.pass(origin);
+    }
+
+    /// The bulletin at the cut of the origin, under which nothing is kept, is given up without being kept: that cut rises by one,
+    /// and all else stays. Constant time, without memory.
+    pub fn pass(&mut self, origin: NodeId)
+        requires origin { origin < self.old.nodes }
+        requires fewer { count_at self.old origin < MOST_EVENTS }
+        requires missing { kept_at self.old origin (count_at self.old origin) ≡ None }
+        ensures { Passes self.old self.new origin }
+    {
         self.cut.raise(origin);
     }
 

@@ -88,3 +88,16 @@ fn the_first_of_one_number_is_kept(rt: HostRuntime) -> Result<(), Fail> {
     assert_eq!(rt; take(&mut core), None);
     Ok(())
 }
+
+#[test]
+fn one_that_is_not_kept_passes(rt: HostRuntime) -> Result<(), Fail> {
+    let (low, high) = (node(0)?, node(1)?);
+    let mut core = GossipCore::new(rt.alloc(), 2)?;
+    core.pass(high);
+    assert_eq!(rt; (core.cut().at(low), core.cut().at(high)), (0, 1));
+    assert_eq!(rt; core.was_offered(high, 0), true);
+    assert_eq!(rt; core.offer(high, 0, delta(rt.alloc(), high))?, Offer::Old);
+    assert_eq!(rt; core.offer(high, 1, delta(rt.alloc(), low))?, Offer::Ready);
+    assert_eq!(rt; take(&mut core), Some((high, low)));
+    Ok(())
+}

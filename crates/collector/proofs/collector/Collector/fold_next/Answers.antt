@@ -2,7 +2,7 @@ use Rattle.std.proofs.Common.{ap, refl, subst, sym, ◌∙◌}
 use Rattle.std.proofs.lemmas.Bool.{false≢true}
 use Rattle.std.specs.Result.{is_err}
 use Rattle.crgc_ids.proofs.SuccessLaws.{at_success}
-use Rattle.gossip_core.specs.Gossip.{count_at}
+use Rattle.gossip_core.specs.Gossip.{IsFirstReady, count_at}
 use Rattle.shadow_graph.specs.Taken.{FoldsIn, IsLinked}
 use Rattle.collector.specs.Collected.{Collected}
 use Rattle.collector.specs.Kept.{IsKept}
@@ -21,6 +21,9 @@ before c = record { node = c.self.inside.node; order = c.self.inside.order; grap
 abbrev after : After-advance → Collected
 after c = record { node = c.self.inside.node; order = c.advance.new.self; graph = c.fold.new.self.graph; stopped = c.self.inside.stopped.items }
 
+first : (c : After-advance) → IsFirstReady c.self.inside.order c.in-Some.ready.0 c.in-Some.ready.1.now
+first c = c.in-Some.ensures.some
+
 folds_in : (c : After-advance) → FoldsIn c.in-Some.ready.0 c.in-Some.ready.1.now c.self.inside.graph.graph c.fold.new.self.graph
 folds_in c = at_success _ c.fold.result (λ e is. false≢true (sym (sym c.is_err.ensures.value ∙ c.if-is_err.false) ∙ ap is_err is)) c.fold.ensures.ok
 
@@ -28,7 +31,7 @@ keeps : (c : After-advance) → KeepsMarks c.self.inside.graph c.fold.new.self
 keeps c = at_success _ c.fold.result (λ e is. false≢true (sym (sym c.is_err.ensures.value ∙ c.if-is_err.false) ∙ ap is_err is)) c.fold.ensures.marks
 
 kept : (c : After-advance) → IsKept (after c)
-kept c = folds-kept (before c) (after c) c.in-Some.ready.0 c.in-Some.ready.1.now c.self.invariant.kept c.in-Some.ensures.some c.advance.ensures (folds_in c) refl refl
+kept c = folds-kept (before c) (after c) c.in-Some.ready.0 c.in-Some.ready.1.now c.self.invariant.kept (first c).ready (first c).node (first c).below c.advance.ensures (folds_in c) refl refl
 
 pub fold-requires-clause-linked : goal.fold-requires-clause-linked
 fold-requires-clause-linked c =
@@ -53,12 +56,12 @@ invariant_of-self-2 c =
 pub returns-clause-folds : goal.returns-clause-folds
 returns-clause-folds c =
     rw (← c.self.view_is)
-    (folds-one (before c) (after c) c.in-Some.ready.0 c.in-Some.ready.1.now c.self.invariant.kept c.in-Some.ensures.some c.advance.ensures (folds_in c) refl refl)
+    (folds-one (before c) (after c) c.in-Some.ready.0 c.in-Some.ready.1.now c.self.invariant.kept (first c).ready (first c).node (first c).below c.advance.ensures (folds_in c) refl refl)
 
 pub returns-clause-one : goal.returns-clause-one
 returns-clause-one c is =
     rw (← c.self.view_is)
-    (folds-sum (before c) (after c) c.in-Some.ready.0 c.in-Some.ready.1.now c.self.invariant.kept c.in-Some.ensures.some c.advance.ensures (folds_in c) refl refl)
+    (folds-sum (before c) (after c) c.in-Some.ready.0 c.in-Some.ready.1.now c.self.invariant.kept (first c).ready (first c).node (first c).below c.advance.ensures (folds_in c) refl refl)
 
 pub returns-clause-bounded : goal.returns-clause-bounded
 returns-clause-bounded c = kept-sum (after c) (kept c)
