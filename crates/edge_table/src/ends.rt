@@ -8,12 +8,12 @@ use std::alloc::Global;
 use std::marker::Model;
 
 /// The edges that lead from a place, and those that lead to it, each by the place of its other end and its number, with reserved
-/// room for more. Up to three of a list stand in the value itself, and more in an allocation. Contracts see both lists, and for how
+/// room for more. Up to four of a list stand in the value itself, and more in an allocation. Contracts see both lists, and for how
 /// many more each has room.
 #[derive(Drop)]
 pub struct Ends {
-    from: SmallVec<(u32, u32), 3>,
-    to: SmallVec<(u32, u32), 3>,
+    from: SmallVec<(u32, u32), 4>,
+    to: SmallVec<(u32, u32), 4>,
 }
 
 impl Model for Ends {
@@ -49,6 +49,9 @@ impl Ends {
         ensures others { self.new.to_room ≡ self.old.to_room }
         ensures ok { OnOk result (0 < self.new.from_room) }
     {
+        if self.from.len() < self.from.capacity() {
+            return Ok(());
+        }
         match self.from.reserve(1) {
             Ok(()) => Ok(()),
             Err(_) => Err(NoMemory),
@@ -61,6 +64,9 @@ impl Ends {
         ensures others { self.new.from_room ≡ self.old.from_room }
         ensures ok { OnOk result (0 < self.new.to_room) }
     {
+        if self.to.len() < self.to.capacity() {
+            return Ok(());
+        }
         match self.to.reserve(1) {
             Ok(()) => Ok(()),
             Err(_) => Err(NoMemory),
