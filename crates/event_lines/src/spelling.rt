@@ -5,7 +5,7 @@ ghost use Rattle.event_lines.specs.Words.{spaced};
 
 use crate::printing::{append_end, append_event};
 use crate::verdict::append_stop;
-use crate::words::{Word, write, write_word};
+use crate::words::{Word, write, write_byte, write_word};
 use crgc_ids::{NoMemory, NodeId, Octets};
 use journal_model::Line;
 use std::alloc::Global;
@@ -49,7 +49,7 @@ fn append_cut(
     write_numbers(counts, out)?;
     write_word(out, &Word::Name(b"lost"))?;
     write_nodes(lost, out)?;
-    write(out, b"\n")
+    write_byte(out, b'\n')
 }
 
 /// Each number after a space.

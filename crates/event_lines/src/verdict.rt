@@ -3,7 +3,7 @@ ghost use Rattle.std.specs.Prelude.{◌≡◌, ◌≤◌, [], ◌∷◌, ◌++�
 ghost use Rattle.journal_model.specs.Lines.{cut_words, spell, stop_words, text_of};
 ghost use Rattle.event_lines.specs.Words.{BeginsWith, spaced};
 
-use crate::words::{Word, append_line, write, write_word};
+use crate::words::{Word, append_line, write, write_byte, write_word};
 use crgc_ids::{Cut, NoMemory, NodeId, NodeSet};
 use history_model::{Stop, Verdict};
 
@@ -47,7 +47,7 @@ fn write_cut(nodes: u8, verdict: &Verdict, out: &mut Vec<u8>) -> Result<(), NoMe
     write_counts(nodes, &verdict.cut, out)?;
     write_word(out, &Word::Name(b"lost"))?;
     write_members(verdict.lost, out)?;
-    write(out, b"\n")
+    write_byte(out, b'\n')
 }
 
 /// The counts of the nodes below `nodes`, each after a space.

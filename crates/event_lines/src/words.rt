@@ -1,5 +1,5 @@
 //! Writing lines word by word.
-ghost use Rattle.std.specs.Prelude.{◌≡◌, ◌∷◌, ◌++◌, map, decimal, OnOk, OnErr};
+ghost use Rattle.std.specs.Prelude.{◌≡◌, [], ◌∷◌, ◌++◌, map, decimal, OnOk, OnErr};
 ghost use Rattle.journal_model.specs.Lines.{actor_word};
 ghost use Rattle.event_lines.specs.Words.{BeginsWith, bytes_of, line_with, spaced};
 
@@ -55,7 +55,7 @@ fn write_line(
     write(out, name)?;
     write_words(out, words)?;
     write_actors(out, actors)?;
-    write(out, b"\n")
+    write_byte(out, b'\n')
 }
 
 /// Each word after a space.
@@ -85,7 +85,7 @@ pub fn write_word(out: &mut Vec<u8>, word: &Word<'_>) -> Result<(), NoMemory>
     ensures ok { OnOk result (out.new.items ≡ out.old.items ++ 32 ∷ bytes_of word.now) }
     ensures err { OnErr result (BeginsWith out.old.items out.new.items) }
 {
-    write(out, b" ")?;
+    write_byte(out, b' ')?;
     match word {
         Word::Name(text) => write(out, text),
         Word::Number(n) => write_number(out, *n),
@@ -98,7 +98,7 @@ fn write_actor(out: &mut Vec<u8>, actor: ActorId) -> Result<(), NoMemory>
     ensures err { OnErr result (BeginsWith out.old.items out.new.items) }
 {
     write_number(out, actor.node().get() as u64)?;
-    write(out, b".")?;
+    write_byte(out, b'.')?;
     write_number(out, actor.serial() as u64)
 }
 
@@ -108,7 +108,7 @@ fn write_number(out: &mut Vec<u8>, n: u64) -> Result<(), NoMemory>
     ensures err { OnErr result (BeginsWith out.old.items out.new.items) }
 {
     if n < 10 {
-        return write(out, &[b'0' + n as u8]);
+        return write_byte(out, b'0' + n as u8);
     }
     let mut buffer = Buffer::new();
     write(out, buffer.format(n).as_bytes())
@@ -120,6 +120,17 @@ pub fn write(out: &mut Vec<u8>, bytes: &[u8]) -> Result<(), NoMemory>
     ensures err { OnErr result (BeginsWith out.old.items out.new.items) }
 {
     match out.extend_from_slice(bytes) {
+        Ok(()) => Ok(()),
+        Err(_) => Err(NoMemory),
+    }
+}
+
+/// One byte, by a single push. What was there still stands first after `NoMemory`.
+pub fn write_byte(out: &mut Vec<u8>, byte: u8) -> Result<(), NoMemory>
+    ensures ok { OnOk result (out.new.items ≡ out.old.items ++ byte ∷ []) }
+    ensures err { OnErr result (BeginsWith out.old.items out.new.items) }
+{
+    match out.push(byte) {
         Ok(()) => Ok(()),
         Err(_) => Err(NoMemory),
     }

@@ -10,4 +10,4 @@ returns c =
     let line = labelled-written c.args.out.now.items (codes "cut") (decimal c.args.node) (codes "lost") (map decimal c.args.counts.now) (map decimal c.args.lost.now)
     c.write.new.out.items c.write_word.new.out.items c.write_numbers.new.out.items c.write_word-2.new.out.items c.write_nodes.new.out.items
     c.in_ok-write.ensures.ok node c.in_ok-write_numbers.ensures c.in_ok-write_word-2.ensures.ok c.in_ok-write_nodes.ensures in
-    OnOk-weaker c.write-2.result _ _ c.write-2.ensures.ok (λ e. e ∙ line)
+    OnOk-weaker c.write_byte.result _ _ c.write_byte.ensures.ok (λ e. e ∙ line)

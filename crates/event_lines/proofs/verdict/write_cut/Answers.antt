@@ -11,4 +11,4 @@ returns-clause-ok c =
     let line = labelled-written c.args.out.now.items (codes "cut") (decimal v.node) (codes "lost") (map decimal (take c.args.nodes v.cut)) (map decimal v.lost)
     c.write.new.out.items c.write_word.new.out.items c.write_counts.new.out.items c.write_word-2.new.out.items c.write_members.new.out.items
     c.in_ok-write.ensures.ok node c.in_ok-write_counts.ensures.ok c.in_ok-write_word-2.ensures.ok c.in_ok-write_members.ensures.ok in
-    OnOk-weaker c.write-2.result _ _ c.write-2.ensures.ok (λ e. e ∙ line)
+    OnOk-weaker c.write_byte.result _ _ c.write_byte.ensures.ok (λ e. e ∙ line)
