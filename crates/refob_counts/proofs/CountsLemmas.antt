@@ -1,5 +1,5 @@
 -- What a change of the map of counts says of the counts.
-use Rattle.std.proofs.Common.{◌≡◌, ◌≢◌, ℕ, Bool, true, false, cond, List, Option, Some, None, refl, sym, ◌∙◌, ap, arith}
+use Rattle.std.proofs.Common.{◌≡◌, ◌≢◌, ℕ, Bool, true, false, cond, List, Option, Some, None, is_some, Result, Ok, Err, OnErr, OnOk, refl, sym, ◌∙◌, ap, arith}
 use Rattle.std.proofs.lemmas.Bool.{true≢false}
 use Rattle.std.proofs.lemmas.Bool.Decides.{nat_tests}
 use Rattle.std.specs.Map.{lookup}
@@ -18,9 +18,21 @@ count_change old new target count here there = record {
       ap (λ o. unwrap_or o 0) (sym (lookup-tie a new) ∙ kept ∙ lookup-tie a old);
 }
 
--- of a target that the map has not, none is held
-pub count_of-absent : (counts : List (Actor × ℕ)) (target : Actor) → lookup (tie target) counts ≡ None → count_of counts target ≡ 0
-count_of-absent counts target absent = ap (λ o. unwrap_or o 0) (sym (lookup-tie target counts) ∙ absent)
+-- of a target, as many are held as the map has
+pub count_of-found : (counts : List (Actor × ℕ)) (target : Actor) (found : Option ℕ) → found ≡ lookup (tie target) counts → count_of counts target ≡ unwrap_or found 0
+count_of-found counts target found is = ap (λ o. unwrap_or o 0) (sym (lookup-tie target counts) ∙ sym is)
+
+-- of two changes at one target the second counts
+pub changed_again : (old between new : List (Actor × ℕ)) (target : Actor) (first second : ℕ) → IsCountChange old between target first → IsCountChange between new target second → IsCountChange old new target second
+changed_again old between new target first second change again = record {
+  changed = again.changed;
+  others = λ a differ. again.others a differ ∙ change.others a differ;
+}
+
+-- a target that the map has is put in again without an error, which comes only where the map has it not
+pub put_again : {E : Type 0} (P : Type 0) (r : Result (Option ℕ) E) (counts : List (Actor × ℕ)) (target : Actor) (count : ℕ) → lookup (tie target) counts ≡ Some count → OnErr r (lookup (tie target) counts ≡ None) → OnOk r P → P
+put_again P (Ok old) counts target count there absent p = p
+put_again P (Err e) counts target count there absent p = absurd (true≢false (sym (ap is_some there) ∙ ap is_some absent))
 
 -- ---- the first target, beside the others
 

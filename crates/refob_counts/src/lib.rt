@@ -52,8 +52,12 @@ impl RefCounts {
         ensures err { OnErr result (self.new ≡ self.old) }
         ensures absent { OnErr result (count_of self.old target ≡ 0) }
     {
-        let held = self.held(target);
-        self.set(target, held + count)
+        if is_free_for(self.first, target) {
+            let held = self.held(target);
+            self.first = Some((target, held + count));
+            return Ok(());
+        }
+        add_in(&mut self.others, target, count)
     }
 
     /// So many references to the target are held from now on. `NoMemory` comes only where none was, and all is then as before.
@@ -155,6 +159,25 @@ fn held_in(counts: &BTreeMap<ActorId, u32>, target: ActorId) -> u32
     match counts.get(&target) {
         Some(count) => *count,
         None => 0,
+    }
+}
+
+/// The target has so many more from now on. Where it had none yet, which is most often so, the map is searched once.
+fn add_in(counts: &mut BTreeMap<ActorId, u32>, target: ActorId, count: u32) -> Result<(), NoMemory>
+    requires { count_of counts.old.entries target + count < 2 ^ 32 }
+    ensures ok { OnOk result
+        (IsCountChange counts.old.entries counts.new.entries target (count_of counts.old.entries target + count)) }
+    ensures err { OnErr result (counts.new.entries ≡ counts.old.entries) }
+    ensures absent { OnErr result (count_of counts.old.entries target ≡ 0) }
+{
+    match counts.insert(target, count) {
+        Ok(None) => Ok(()),
+        Ok(Some(held)) => {
+            // the map has the target, so this takes no memory
+            let _ = counts.insert(target, held + count);
+            Ok(())
+        }
+        Err(_) => Err(NoMemory),
     }
 }
 
