@@ -1,5 +1,5 @@
 -- A shadow graph as a graph of places, in which marks go from pseudoroots along positive edges.
-use Rattle.std.specs.Prelude.{◌==◌, ◌+◌, ◌&&◌, ◌||◌, not, if◌then◌else◌, ℕ, Bool, true, Option, None, Some, length, nat_lt}
+use Rattle.std.specs.Prelude.{◌≡◌, ◌==◌, ◌+◌, ◌&&◌, ◌||◌, not, if◌then◌else◌, ℕ, Bool, List, [], true, Option, None, Some, length, nat_lt}
 use Rattle.crgc_ids.specs.Actor.{Actor}
 use Rattle.crgc_ids.specs.Nodes.{has_node}
 use Rattle.edge_table.specs.Table.{edge_at}
@@ -13,6 +13,11 @@ use Rattle.shadow_graph.specs.Seen.{is_dropped}
 -- whether a sweep leaves the actor out: it was dropped, or its node is lost
 abbrev pub is_out : Graph → Actor → Bool
 is_out g a = is_dropped g a || has_node (lost_in g) a.node
+
+-- these are the lost nodes of the graph, if it has any
+abbrev pub AreLost : Graph → Option (List ℕ) → Type 0
+AreLost g None = lost_in g ≡ []
+AreLost g (Some lost) = lost ≡ lost_in g
 
 -- whether an actor with these flags in its own entry may act of itself; one without an entry may
 abbrev pub may_act : Option (Bool × Bool) → Bool

@@ -3,7 +3,7 @@ ghost use Rattle.std.specs.Prelude.{◌≡◌, ◌+◌, ◌<◌, ◌≤◌, ◌=
 ghost use Rattle.crgc_ids.specs.Nodes.{has_node};
 ghost use Rattle.shadow_graph.specs.Graph.{lost_in};
 ghost use Rattle.shadow_graph.specs.Places.{actor_of};
-ghost use Rattle.pseudoroot_trace.specs.Trace.{may_act, place_graph};
+ghost use Rattle.pseudoroot_trace.specs.Trace.{AreLost, may_act, place_graph};
 
 use crgc_ids::{ActorId, NodeSet};
 use place_marks::PlaceGraph;
@@ -16,6 +16,7 @@ use std::marker::Model;
 #[derive(Drop)]
 pub struct Trace<'a> {
     graph: &'a ShadowGraph,
+    lost: Option<NodeSet>,
 }
 
 impl<'a> Model for Trace<'a> {
@@ -23,7 +24,11 @@ impl<'a> Model for Trace<'a> {
 
     ghost Value = { Graph };
 
+    ghost use Rattle.pseudoroot_trace.specs.Trace.{AreLost};
+
     ghost view = { λ t. t.graph.now };
+
+    ghost invariant = { λ t. AreLost t.graph.now t.lost };
 }
 
 impl<'a> Trace<'a> {
@@ -31,7 +36,29 @@ impl<'a> Trace<'a> {
     pub fn new(graph: &'a ShadowGraph) -> Trace<'a>
         ensures { result ≡ graph.now }
     {
-        Trace { graph }
+        Trace {
+            graph,
+            lost: lost_nodes(graph),
+        }
+    }
+
+    /// Whether marks go along an edge of this value to the target's place: it is positive, and the target's node is not lost.
+    fn leads(&self, target: u32, value: i64) -> bool
+        requires { target < length self.now.shadows.names }
+        ensures { result ≡ (int_lt (pos 0) value && not (has_node (lost_in self.now) (actor_of self.now target).node)) }
+    {
+        value > 0 && !self.is_lost(target)
+    }
+
+    /// Whether the node of the actor at the place is lost.
+    fn is_lost(&self, place: u32) -> bool
+        requires { place < length self.now.shadows.names }
+        ensures { result ≡ has_node (lost_in self.now) (actor_of self.now place).node }
+    {
+        match self.lost {
+            Some(lost) => lost.contains(actor_at(self.graph, place).node()),
+            None => false,
+        }
     }
 }
 
@@ -44,13 +71,13 @@ impl<'a> PlaceGraph for Trace<'a> {
 
     fn is_start(&self, place: u32) -> bool {
         let shadow = self.graph.shadow(place);
-        let is_out = shadow.dropped || is_lost(self.graph, place);
+        let is_out = shadow.dropped || self.is_lost(place);
         !is_out && is_pseudoroot(shadow)
     }
 
     fn step(&self, number: u32) -> Option<(u32, u32)> {
         let (owner, target, value) = self.graph.edge_numbered(number)?;
-        if leads(self.graph, target, value) {
+        if self.leads(target, value) {
             Some((owner, target))
         } else {
             None
@@ -82,24 +109,16 @@ fn is_pseudoroot(shadow: Shadow) -> bool
     may_act || shadow.received != shadow.told + shadow.admitted
 }
 
-/// Whether marks go along an edge of this value to the target's place: it is positive, and the target's node is not lost.
-fn leads(graph: &ShadowGraph, target: u32, value: i64) -> bool
-    requires { target < length graph.now.shadows.names }
-    ensures { result ≡ (int_lt (pos 0) value && not (has_node (lost_in graph.now) (actor_of graph.now target).node)) }
-{
-    value > 0 && !is_lost(graph, target)
-}
-
-/// Whether the node of the actor at the place is lost.
-fn is_lost(graph: &ShadowGraph, place: u32) -> bool
-    requires { place < length graph.now.shadows.names }
-    ensures { result ≡ has_node (lost_in graph.now) (actor_of graph.now place).node }
+/// The lost nodes; None where none is lost.
+fn lost_nodes(graph: &ShadowGraph) -> Option<NodeSet>
+    ensures { AreLost graph.now result }
 {
     let lost = graph.lost();
     if lost == NodeSet::empty() {
-        return false;
+        None
+    } else {
+        Some(lost)
     }
-    lost.contains(actor_at(graph, place).node())
 }
 
 /// The actor at the place.

@@ -22,12 +22,22 @@ pub fn new_names(
         v.items ≡ unnamed shadows.now.names (row_names states.now sent.now created.now released.now)) }
     ensures fits { OnOk result (AreCounts states.now sent.now created.now released.now) }
 {
-    let mut names = Vec::new(alloc);
+    let mut names = room_for(alloc, states.len())?;
     push_states(&mut names, shadows, states)?;
     push_counts(&mut names, shadows, sent)?;
     push_pairs(&mut names, shadows, created)?;
     push_pairs(&mut names, shadows, released)?;
     Ok(names)
+}
+
+/// No actor yet, with room for one of each state: most actors that are new tell their state.
+fn room_for(alloc: Global, states: usize) -> Result<Vec<ActorId>, NoMemory>
+    ensures { IfOk result (λ v. v.items ≡ []) }
+{
+    match Vec::with_capacity(alloc, states) {
+        Ok(names) => Ok(names),
+        Err(_) => Err(NoMemory),
+    }
 }
 
 /// The actors of the states that the table does not name come last.

@@ -11,7 +11,7 @@ use std::alloc::Global;
 use std::marker::Model;
 
 /// What a node told, or what others admitted from it: rows that count messages, and rows that count pairs. They stand as they
-/// came, and are added up each time that there are four times as many. Contracts see both lists.
+/// came, and are added up each time that there are eight times as many. Contracts see both lists.
 #[derive(Drop)]
 pub struct SideLog {
     messages: Vec<ActorCount>,
@@ -66,12 +66,12 @@ impl SideLog {
         Ok(())
     }
 
-    /// Where there are four times as many rows as after the last time, they are added up.
+    /// Where there are eight times as many rows as after the last time, they are added up.
     fn add_up_if_many(&mut self)
         ensures { (owner : Option Actor) (target : Actor) → noted_count owner target self.new.messages self.new.pairs
             ≡ noted_count owner target self.old.messages self.old.pairs }
     {
-        if self.len() / 4 > self.added_up {
+        if self.len() / 8 > self.added_up {
             self.add_up();
         }
     }
