@@ -25,7 +25,9 @@ impl Model for SerialSet {
 
     ghost view = { λ s. s.serials.items };
 
-    ghost invariant = { λ s. (length s.serials.items ≤ 4096) × Summarizes (has_flag s.groups.items) s.serials.items × Summarizes (has_one s.top) s.groups.items };
+    ghost invariant = { λ s. (length s.serials.items ≤ 4096)
+        × Summarizes (has_flag s.groups.items) s.serials.items
+        × Summarizes (has_one s.top) s.groups.items };
 }
 
 impl SerialSet {
