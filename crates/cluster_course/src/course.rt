@@ -89,6 +89,7 @@ impl Course {
     /// The event happens, and what it tells is the answer; or the answer is what hinders it: the first rule that it breaks, or
     /// else the limit that it would pass; then the history is as before. An event in the time that the world takes for it, a hand
     /// and a sweep also in that of their node's collector.
+    #[inline(always)]
     pub fn follow(&mut self, event: Event) -> Result<Told, Halt>
         requires few { CarriesFew event }
         ensures told { IfOk result (λ told. told ≡ told_of event self.old.past) }
@@ -105,6 +106,7 @@ impl Course {
     }
 
     /// An event happens that is neither a hand nor a sweep.
+    #[inline(always)]
     fn happen(&mut self, event: Event) -> Result<Told, Halt>
         requires other { is_of_collector event ≡ false }
         requires few { CarriesFew event }

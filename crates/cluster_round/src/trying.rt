@@ -11,6 +11,7 @@ use history_model::Event;
 use true_config::Told;
 
 /// The event happens, unless a rule refuses it.
+#[inline(always)]
 pub(crate) fn try_event(course: &mut Course, event: Event) -> Result<(), RoundHalt>
     requires { CarriesFew event }
     ensures cluster { course.new.cluster ≡ course.old.cluster }

@@ -40,6 +40,7 @@ impl Partition {
     }
 
     /// The list has one edge more, the last, which does not count. After `NoMemory` all is as before. Amortized constant time.
+    #[inline(always)]
     pub fn push(&mut self, end: (u32, u32)) -> Result<(), NoMemory>
         requires { length self.old.order < 2 ^ 32 }
         ensures ok { OnOk result ((ends : List (ℕ × ℕ)) (counts : ℕ → Bool) → IsParted ends counts self.old → counts end.1 ≡ false
@@ -64,6 +65,7 @@ impl Partition {
 
     /// The edge with this number, which is one of the list, counts from now on, or does not. Constant time where it is the last of
     /// the list, else logarithmic time.
+    #[inline(always)]
     pub fn set(&mut self, ends: &[(u32, u32)], number: u32, counts: bool)
         requires rising { AreRising (numbers_in ends.now) }
         requires among { IsAmong number (numbers_in ends.now) }
@@ -76,6 +78,7 @@ impl Partition {
     }
 
     /// The edge at this place of the list counts from now on, or does not. Constant time.
+    #[inline(always)]
     pub fn set_at(&mut self, place: usize, counts: bool)
         requires place { place < length self.old.order }
         requires few { length self.old.order < 2 ^ 32 }

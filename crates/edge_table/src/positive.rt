@@ -44,6 +44,7 @@ impl PositiveEdges {
 
     /// The place has these edges, the last of which is new and not positive. Where there is no memory for it, nothing is kept of the
     /// place. Amortized logarithmic time.
+    #[inline(always)]
     pub fn grow(&mut self, place: u32, ends: &[(u32, u32)], end: (u32, u32), edges: &[Edge])
         requires rising { AreRising (numbers_in ends.now) }
         requires few { length ends.now < 2 ^ 32 }
@@ -67,6 +68,7 @@ impl PositiveEdges {
 
     /// The edge, which does not count, comes last in what is kept of the place. False where nothing is kept of it, or no longer,
     /// for want of memory.
+    #[inline(always)]
     fn push(&mut self, place: u32, end: (u32, u32)) -> bool
         requires { (before : List (ℕ × ℕ)) × (counts : ℕ → Bool) × (length before < 2 ^ 32) × IsKeptOf before counts (kept_of self.old place) }
         ensures pushed { result ≡ true → (before : List (ℕ × ℕ)) (counts : ℕ → Bool) → counts end.1 ≡ false
@@ -102,6 +104,7 @@ impl PositiveEdges {
     }
 
     /// The edge with this number, which is one of these of the place, is positive from now on, or is not. Logarithmic time.
+    #[inline(always)]
     pub fn set(&mut self, place: u32, ends: &[(u32, u32)], number: u32, counts: bool)
         requires rising { AreRising (numbers_in ends.now) }
         requires among { IsAmong number (numbers_in ends.now) }

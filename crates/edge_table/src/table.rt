@@ -107,6 +107,7 @@ impl EdgeTable {
 
     /// The number of the edge from the owner to the target, which have these places; None exactly where there is none. At most
     /// 2 * 8 looks at the lists of both places, and where that does not tell, logarithmic time.
+    #[inline(always)]
     pub fn number_of(
         &self,
         owner: ActorId,
@@ -252,6 +253,7 @@ impl EdgeTable {
 
     /// This is kept of the edge from now on, which keeps its ends. Logarithmic time where it became positive or is it no longer,
     /// else constant time.
+    #[inline(always)]
     fn write(&mut self, number: u32, edge: Edge)
         requires some { number < length self.old.edges }
         requires owner { edge.owner ≡ (edge_at self.old number).owner }

@@ -9,6 +9,7 @@ use journal_model::LineFault;
 
 /// The number below the limit that is spelled so, in decimal without sign and without leading zeros. Linear time in
 /// the digits of the limit.
+#[inline(always)]
 pub fn number(word: &[u8], limit: u64) -> Option<u64>
     requires some { 1 ≤ limit }
     requires small { limit ≤ 2 ^ 32 }
@@ -35,6 +36,7 @@ pub fn number(word: &[u8], limit: u64) -> Option<u64>
 }
 
 /// The actor that is spelled so.
+#[inline(always)]
 pub fn actor(word: &[u8]) -> Option<ActorId>
     ensures { result ≡ actor_of word.now }
 {
@@ -46,6 +48,7 @@ pub fn actor(word: &[u8]) -> Option<ActorId>
 }
 
 /// The node that is spelled so.
+#[inline(always)]
 pub fn node(word: &[u8]) -> Option<NodeId>
     ensures { result ≡ number_of 16 word.now }
 {
@@ -123,6 +126,7 @@ impl Pieces<'_> {
     }
 
     /// Takes the first piece, as a field that is an actor.
+    #[inline(always)]
     pub fn actor_field(&mut self) -> Result<ActorId, LineFault>
         ensures value { result ≡ actor_field self.old }
         ensures rest { self.new ≡ drop 1 self.old }

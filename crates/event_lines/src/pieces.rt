@@ -36,6 +36,7 @@ impl<'a> Pieces<'a> {
     }
 
     /// Takes the first piece; None where none is left. Linear time in the piece.
+    #[inline(always)]
     pub fn next(&mut self) -> Option<&'a [u8]>
         ensures first { option_copied result ≡ slice_get self.old 0 }
         ensures rest { self.new ≡ drop 1 self.old }

@@ -7,6 +7,7 @@ use crgc_ids::{NoMemory, NodeId};
 use history_model::Event;
 
 /// Appends the line of the event. After `NoMemory` the bytes are as before. Linear time in the line.
+#[inline(always)]
 pub fn append_event(event: &Event, out: &mut Vec<u8>) -> Result<(), NoMemory>
     ensures ok { OnOk result (out.new.items ≡ out.old.items ++ line_of (event_line event.now)) }
     ensures err { OnErr result (out.new.items ≡ out.old.items) }

@@ -21,6 +21,7 @@ impl Pieces<'_> {
     }
 
     /// An actor, and nothing else.
+    #[inline(always)]
     pub fn one_actor(mut self) -> Result<ActorId, LineFault>
         ensures { result ≡ one_actor self.entry }
     {

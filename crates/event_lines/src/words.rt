@@ -24,6 +24,7 @@ impl Word<'_> {
 }
 
 /// Appends a line of a first word, words and actors, with its line feed. After `NoMemory` the bytes are as before.
+#[inline(always)]
 pub fn append_line(
     out: &mut Vec<u8>,
     name: &[u8],
@@ -43,6 +44,7 @@ pub fn append_line(
     }
 }
 
+#[inline(always)]
 fn write_line(
     out: &mut Vec<u8>,
     name: &[u8],
@@ -59,6 +61,7 @@ fn write_line(
 }
 
 /// Each word after a space.
+#[inline(always)]
 fn write_words(out: &mut Vec<u8>, words: &[Word<'_>]) -> Result<(), NoMemory>
     ensures ok { OnOk result (out.new.items ≡ out.old.items ++ spaced (map bytes_of words.now)) }
     ensures err { OnErr result (BeginsWith out.old.items out.new.items) }
@@ -70,6 +73,7 @@ fn write_words(out: &mut Vec<u8>, words: &[Word<'_>]) -> Result<(), NoMemory>
 }
 
 /// Each actor after a space.
+#[inline(always)]
 fn write_actors(out: &mut Vec<u8>, actors: &[ActorId]) -> Result<(), NoMemory>
     ensures ok { OnOk result (out.new.items ≡ out.old.items ++ spaced (map actor_word actors.now)) }
     ensures err { OnErr result (BeginsWith out.old.items out.new.items) }
@@ -81,6 +85,7 @@ fn write_actors(out: &mut Vec<u8>, actors: &[ActorId]) -> Result<(), NoMemory>
 }
 
 /// A space and the word.
+#[inline(always)]
 pub fn write_word(out: &mut Vec<u8>, word: &Word<'_>) -> Result<(), NoMemory>
     ensures ok { OnOk result (out.new.items ≡ out.old.items ++ 32 ∷ bytes_of word.now) }
     ensures err { OnErr result (BeginsWith out.old.items out.new.items) }
@@ -93,6 +98,7 @@ pub fn write_word(out: &mut Vec<u8>, word: &Word<'_>) -> Result<(), NoMemory>
     }
 }
 
+#[inline(always)]
 fn write_actor(out: &mut Vec<u8>, actor: ActorId) -> Result<(), NoMemory>
     ensures ok { OnOk result (out.new.items ≡ out.old.items ++ actor_word actor) }
     ensures err { OnErr result (BeginsWith out.old.items out.new.items) }
@@ -103,6 +109,7 @@ fn write_actor(out: &mut Vec<u8>, actor: ActorId) -> Result<(), NoMemory>
 }
 
 #[tactic(auto, using(std::proofs::lemmas::Fmt::decimal_digit))]
+#[inline(always)]
 fn write_number(out: &mut Vec<u8>, n: u64) -> Result<(), NoMemory>
     ensures ok { OnOk result (out.new.items ≡ out.old.items ++ decimal n) }
     ensures err { OnErr result (BeginsWith out.old.items out.new.items) }
@@ -115,6 +122,7 @@ fn write_number(out: &mut Vec<u8>, n: u64) -> Result<(), NoMemory>
 }
 
 /// The bytes as they are. Here as in the functions above, what was there still stands first after `NoMemory`.
+#[inline(always)]
 pub fn write(out: &mut Vec<u8>, bytes: &[u8]) -> Result<(), NoMemory>
     ensures ok { OnOk result (out.new.items ≡ out.old.items ++ bytes.now) }
     ensures err { OnErr result (BeginsWith out.old.items out.new.items) }
@@ -126,6 +134,7 @@ pub fn write(out: &mut Vec<u8>, bytes: &[u8]) -> Result<(), NoMemory>
 }
 
 /// One byte, by a single push. What was there still stands first after `NoMemory`.
+#[inline(always)]
 pub fn write_byte(out: &mut Vec<u8>, byte: u8) -> Result<(), NoMemory>
     ensures ok { OnOk result (out.new.items ≡ out.old.items ++ byte ∷ []) }
     ensures err { OnErr result (BeginsWith out.old.items out.new.items) }

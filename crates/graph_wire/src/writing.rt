@@ -12,6 +12,7 @@ use crgc_ids::{ActorCount, ActorId, NoMemory, Octets, PairCount};
 use history_model::{Bulletin, Delta, StateRow, Window};
 use std::alloc::Global;
 
+#[inline(always)]
 fn put(out: &mut Vec<u8>, bytes: &[u8]) -> Result<(), NoMemory>
     ensures { OnOk result (out.new.items ≡ out.old.items ++ bytes.now) }
 {

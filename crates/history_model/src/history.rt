@@ -46,6 +46,7 @@ impl History {
     }
 
     /// Puts the event last; after `NoMemory` the history is as before. Amortized constant time.
+    #[inline(always)]
     pub fn push(&mut self, event: Event) -> Result<(), NoMemory>
         ensures cluster { self.new.cluster ≡ self.old.cluster }
         ensures ok { OnOk result (self.new.past ≡ event ∷ self.old.past) }

@@ -46,6 +46,7 @@ impl RefCounts {
 
     /// `count` references to the target are held more, and no other count changes. `NoMemory` comes only where none is held,
     /// and all is then as before. Logarithmic time in the number of targets.
+    #[inline(always)]
     pub fn add(&mut self, target: ActorId, count: u32) -> Result<(), NoMemory>
         requires { count_of self.old target + count < 2 ^ 32 }
         ensures ok { OnOk result (IsCountChange self.old self.new target (count_of self.old target + count)) }
@@ -61,6 +62,7 @@ impl RefCounts {
     }
 
     /// So many references to the target are held from now on. `NoMemory` comes only where none was, and all is then as before.
+    #[inline(always)]
     fn set(&mut self, target: ActorId, count: u32) -> Result<(), NoMemory>
         ensures ok { OnOk result (IsCountChange self.old self.new target count) }
         ensures err { OnErr result (self.new ≡ self.old) }
@@ -103,6 +105,7 @@ impl RefCounts {
 
     /// One reference to the target is held less, and no other count changes. `NotHeld` exactly where none is held; then
     /// all is as before. Logarithmic time in the number of targets.
+    #[inline(always)]
     pub fn release(&mut self, target: ActorId) -> Result<(), NotHeld>
         ensures ok { OnOk result (IsCountChange self.old self.new target (count_of self.old target - 1)) }
         ensures held { OnOk result (0 < count_of self.old target) }

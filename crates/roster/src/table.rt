@@ -246,6 +246,7 @@ impl Roster {
     }
 
     /// A busy actor becomes idle. After `NoMemory` all is as before. Logarithmic time in the number of the node's actors.
+    #[inline(always)]
     pub fn rest(&mut self, actor: ActorId) -> Result<(), NoMemory>
         requires here { IsHere self.old actor }
         requires busy { (state_at self.old actor).busy ≡ true }

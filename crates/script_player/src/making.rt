@@ -18,6 +18,7 @@ use true_config::Told;
 
 /// An event happens, which no rule refuses, and the world tells what came of it; or the answer is the limit that it would pass. In the
 /// time that the course takes for it.
+#[inline(always)]
 pub(crate) fn make(course: &mut Course, event: Event) -> Result<Told, RunFault>
     requires legal { refusal course.old.cluster event course.old.past ≡ None }
     requires few { CarriesFew event }

@@ -21,7 +21,7 @@ pub fn shadow_of(shadows: &ShadowTable, actor: ActorId) -> Shadow
     shadows.shadow(place)
 }
 
-/// What is kept of the owner's references to the target, or of no edge where no row named the pair. At most 2 * 8 looks at edges,
+/// What is kept of the owner's references to the target, or of no edge where no row named the pair. At most 2 * 8 looks at lists,
 /// and where that does not tell, logarithmic time.
 pub fn edge_between(
     shadows: &ShadowTable,

@@ -189,7 +189,7 @@ impl ShadowGraph {
     }
 
     /// The references to the target that the owner was given, less those that it released; 0 where the target was dropped.
-    /// At most 2 * 8 looks at edges, and where that does not tell, time logarithmic in their number.
+    /// At most 2 * 8 looks at lists, and where that does not tell, time logarithmic in their number.
     pub fn edge(&self, owner: ActorId, target: ActorId) -> i64
         ensures { let e = seen_edge self.now owner target in result ≡ pos e.given -ℤ pos e.released }
     {

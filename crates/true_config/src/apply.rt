@@ -18,6 +18,7 @@ impl World {
     /// reference that it carries, on average where an admission is noted; for a flush, a publish, a window and a removal time in
     /// proportion to n log n for the n rows that they tell; for a crash and a removal also linear time in what the node and its
     /// links have.
+    #[inline(always)]
     pub fn apply(&mut self, event: &Event) -> Result<Applied, NoMemory>
         requires no_sweep { is_sweep event.now ≡ false }
         requires few { CarriesFew event.now }
@@ -32,6 +33,7 @@ impl World {
     }
 
     /// The event, or what hinders it.
+    #[inline(always)]
     fn apply_if_possible(&mut self, event: &Event) -> Result<Applied, NoMemory>
         requires no_sweep { is_sweep event.now ≡ false }
         requires few { CarriesFew event.now }
@@ -46,6 +48,7 @@ impl World {
     }
 
     /// An event that is no publication either, or what hinders it.
+    #[inline(always)]
     fn change_if_possible(&mut self, event: &Event) -> Result<Applied, NoMemory>
         requires no_sweep { is_sweep event.now ≡ false }
         requires no_publish { (n : ℕ) → event.now ≢ events.Publish n }
@@ -67,6 +70,7 @@ impl World {
     }
 
     /// The event happens, which nothing hinders.
+    #[inline(always)]
     fn change(&mut self, event: &Event) -> Result<Told, NoMemory>
         requires may { MayFollow event.now self.old }
         requires no_sweep { is_sweep event.now ≡ false }

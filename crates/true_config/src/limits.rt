@@ -15,6 +15,7 @@ use history_model::{Event, Rule};
 impl World {
     /// What hinders the event: the first rule that it breaks, or else the limit that it would pass; None exactly where it may
     /// follow. In the time of `refusal` and `limit`.
+    #[inline(always)]
     pub(crate) fn hindrance(&self, event: &Event) -> Result<Option<Applied>, NoMemory>
         ensures { IfOk result (λ x. x ≡ hindrance self.now.cluster event.now self.now.past) }
     {
@@ -30,6 +31,7 @@ impl World {
 
     /// The first rule that the event breaks; None exactly where it is legal. It asks at most eight times, and a send twice more
     /// for each reference.
+    #[inline(always)]
     pub fn refusal(&self, event: &Event) -> Option<Rule>
         ensures { result ≡ refusal self.now.cluster event.now self.now.past }
     {
@@ -39,6 +41,7 @@ impl World {
     /// The limit that a legal event would pass, if any: an actor beyond the greatest serial, then a bulletin that names more than
     /// 200,000 actors, then an event beyond the 1,000,000th. For a publish it adds the queue up, in time in proportion to
     /// n log n for n rows.
+    #[inline(always)]
     pub fn limit(&self, event: &Event) -> Result<Option<Which>, NoMemory>
         requires { refusal self.now.cluster event.now self.now.past ≡ None }
         ensures { IfOk result (λ limit. limit ≡ limit_passed self.now.cluster event.now self.now.past) }
