@@ -33,7 +33,24 @@ fn lists_keep_their_items(rt: HostRuntime) -> Result<(), Fail> {
     assert_eq!(rt; same.iter().count(), 2);
     assert_eq!(rt; bytes.as_slice(), same.as_slice());
     assert_eq!(rt; Octets::from_vec(same.into_vec()).get(0), Some(&7));
-    assert_eq!(rt; RefList::new(rt.alloc()).len(), 0);
+    Ok(())
+}
+
+#[test]
+fn references_keep_their_order(rt: HostRuntime) -> Result<(), Fail> {
+    let first = actor(0, 1).ok_or("an actor")?;
+    let second = actor(1, 0).ok_or("another actor")?;
+    let mut refs = RefList::new(rt.alloc());
+    assert_eq!(rt; (refs.len(), refs.get(0)), (0, None));
+    refs.push(first)?;
+    refs.push(second)?;
+    let same = refs.copy()?;
+    assert_eq!(rt;
+        (same.len(), same.get(1), same.get(2)),
+        (2, Some(&second), None)
+    );
+    assert_eq!(rt; same.iter().count(), 2);
+    assert_eq!(rt; refs.as_slice(), same.as_slice());
     Ok(())
 }
 
