@@ -10,11 +10,19 @@ use std::alloc::Global;
 use std::marker::Model;
 use std::slice::Iter;
 
-/// The references that a message carries. It keeps its allocator. They stand in a block, which is there only where there are any, so
-/// that an event has room for a mark and a pointer to them, and no more. Contracts see the list of the actors.
+/// What is kept of the references of a message: nothing, one in the value itself, or a block of several.
+#[derive(Debug, Drop)]
+pub enum Kept {
+    Nothing,
+    One([ActorId; 1]),
+    Several(Box<Vec<ActorId>>),
+}
+
+/// The references that a message carries. It keeps its allocator. One of them stands in the value itself, and several in a block, so
+/// that an event has room for a mark and a pointer or an actor, and no more. Contracts see the list of the actors.
 #[derive(Debug, Drop)]
 pub struct RefList {
-    actors: Option<Box<Vec<ActorId>>>,
+    kept: Kept,
     alloc: Global,
 }
 
@@ -25,7 +33,7 @@ impl Model for RefList {
 
     ghost Value = { List Actor };
 
-    ghost view = { λ l. actors_in l.actors };
+    ghost view = { λ l. actors_in l.kept };
 }
 
 impl RefList {
@@ -34,7 +42,7 @@ impl RefList {
         ensures { result ≡ [] }
     {
         RefList {
-            actors: None,
+            kept: Kept::Nothing,
             alloc,
         }
     }
@@ -44,15 +52,20 @@ impl RefList {
         ensures ok { OnOk result (self.new ≡ self.old ++ actor ∷ []) }
         ensures err { OnErr result (self.new ≡ self.old) }
     {
-        match &mut self.actors {
-            Some(actors) => match actors.push(actor) {
+        match &mut self.kept {
+            Kept::Nothing => {
+                self.kept = Kept::One([actor]);
+                Ok(())
+            }
+            Kept::One(first) => {
+                let both = [first[0], actor];
+                self.kept = Kept::Several(block(self.alloc, &both)?);
+                Ok(())
+            }
+            Kept::Several(actors) => match actors.push(actor) {
                 Ok(()) => Ok(()),
                 Err(_) => Err(NoMemory),
             },
-            None => {
-                self.actors = Some(one(self.alloc, actor)?);
-                Ok(())
-            }
         }
     }
 
@@ -60,13 +73,15 @@ impl RefList {
     pub fn copy(&self) -> Result<RefList, NoMemory>
         ensures { IfOk result (λ l. l ≡ self.now) }
     {
-        match &self.actors {
-            Some(actors) => Ok(RefList {
-                actors: Some(copy_of(self.alloc, actors.as_slice())?),
-                alloc: self.alloc,
-            }),
-            None => Ok(RefList::new(self.alloc)),
-        }
+        let kept = match &self.kept {
+            Kept::Nothing => Kept::Nothing,
+            Kept::One(actor) => Kept::One(*actor),
+            Kept::Several(actors) => Kept::Several(block(self.alloc, actors.as_slice())?),
+        };
+        Ok(RefList {
+            kept,
+            alloc: self.alloc,
+        })
     }
 
     /// How many actors it has.
@@ -98,23 +113,17 @@ impl RefList {
     pub fn as_slice(&self) -> &[ActorId]
         ensures { result.now ≡ self.now }
     {
-        match &self.actors {
-            Some(actors) => actors.as_slice(),
-            None => &[],
+        match &self.kept {
+            Kept::Nothing => &[],
+            Kept::One(actor) => actor,
+            Kept::Several(actors) => actors.as_slice(),
         }
     }
 }
 
-/// One actor.
-fn one(alloc: Global, actor: ActorId) -> Result<Box<Vec<ActorId>>, NoMemory>
-    ensures { IfOk result (λ actors. actors.value.items ≡ actor ∷ []) }
-{
-    copy_of(alloc, &[actor])
-}
-
-/// The same actors.
-fn copy_of(alloc: Global, actors: &[ActorId]) -> Result<Box<Vec<ActorId>>, NoMemory>
-    ensures { IfOk result (λ copy. copy.value.items ≡ actors.now) }
+/// A block of these actors.
+fn block(alloc: Global, actors: &[ActorId]) -> Result<Box<Vec<ActorId>>, NoMemory>
+    ensures { IfOk result (λ b. b.value.items ≡ actors.now) }
 {
     let Ok(copy) = Vec::from_slice(alloc, actors) else {
         return Err(NoMemory);
