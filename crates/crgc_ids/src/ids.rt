@@ -5,6 +5,7 @@ ghost use Rattle.std.specs.Cmp.Rules.{comparing, hashing};
 ghost use Rattle.std.specs.Ordering.{as_partial_cmp};
 ghost use Rattle.std.specs.Hash as fed;
 ghost use Rattle.std.specs.Prelude.{◌≡◌, ◌<◌, ◌≤◌, ◌↔◌, IfSome, IfNone, OnSome};
+ghost use Rattle.crgc_ids.specs.Actor.{IsActor, actor_number};
 ghost use Rattle.crgc_ids.specs.declared.limits.TheConstants.{MOST_ACTORS};
 
 use crate::limits::MOST_ACTORS;
@@ -146,6 +147,14 @@ impl ActorId {
         } else {
             None
         }
+    }
+
+    /// Its two numbers as one, by which actors are ordered.
+    pub fn number(self) -> u32
+        ensures number { result ≡ actor_number self }
+        ensures in_range { IsActor self }
+    {
+        self.number
     }
 
     /// The node on which it lives.

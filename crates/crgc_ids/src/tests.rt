@@ -15,6 +15,7 @@ fn names_are_in_range(rt: HostRuntime) -> Result<(), Fail> {
     assert_eq!(rt; NodeId::new(16), None);
     let a = ActorId::new(last, 262_143).ok_or("the last serial")?;
     assert_eq!(rt; (a.node(), a.serial()), (last, 262_143));
+    assert_eq!(rt; a.number(), 4_194_303);
     assert_eq!(rt; ActorId::new(last, 262_144), None);
     assert!(rt;
         actor(0, 7) < actor(1, 3),

@@ -1,5 +1,6 @@
 //! Rows in order.
-ghost use Rattle.std.specs.Prelude.{◌≡◌};
+ghost use Rattle.std.specs.Prelude.{◌≡◌, ◌+◌, ◌*◌};
+ghost use Rattle.crgc_ids.specs.Actor.{IsActor, actor_number};
 ghost use Rattle.row_sums.specs.Orders as orders;
 
 use crgc_ids::{ActorCount, ActorId, PairCount};
@@ -23,5 +24,14 @@ pub fn compare_counts(r: &ActorCount, s: &ActorCount) -> Ordering
 pub fn compare_pairs(r: &PairCount, s: &PairCount) -> Ordering
     ensures { result ≡ orders.compare_pairs (r.now.owner, r.now.target) (s.now.owner, s.now.target) }
 {
-    compare_actors(r.owner, s.owner).then(compare_actors(r.target, s.target))
+    pair_number(r).cmp(&pair_number(s))
+}
+
+/// The numbers of the owner and of the target as one.
+fn pair_number(r: &PairCount) -> u64
+    ensures number { result ≡ actor_number r.now.owner * 4294967296 + actor_number r.now.target }
+    ensures owner { IsActor r.now.owner }
+    ensures target { IsActor r.now.target }
+{
+    u64::from(r.owner.number()) * 4_294_967_296 + u64::from(r.target.number())
 }
