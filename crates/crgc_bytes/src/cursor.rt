@@ -9,19 +9,19 @@ use std::marker::Model;
 /// the place, and the bytes from there on.
 #[derive(Debug, Drop)]
 pub struct Cursor<'a> {
+    bytes: &'a [u8],
     offset: usize,
-    rest: &'a [u8],
 }
 
 impl<'a> Model for Cursor<'a> {
-    ghost use Rattle.std.specs.Prelude.{length, ◌+◌, ◌<◌, ◌^◌};
+    ghost use Rattle.std.specs.Prelude.{drop, length, ◌≤◌};
     ghost use Rattle.crgc_bytes.specs.Place.{Place};
 
     ghost Value = { Place };
 
-    ghost view = { λ c. record { offset = c.offset; rest = c.rest.now } };
+    ghost view = { λ c. record { offset = c.offset; rest = drop c.offset c.bytes.now } };
 
-    ghost invariant = { λ c. c.offset + length c.rest.now < 2 ^ 64 };
+    ghost invariant = { λ c. c.offset ≤ length c.bytes.now };
 }
 
 impl<'a> Cursor<'a> {
@@ -29,9 +29,16 @@ impl<'a> Cursor<'a> {
     pub fn new(bytes: &'a [u8]) -> Cursor<'a>
         ensures { result ≡ record { offset = 0; rest = bytes.now } }
     {
+        Cursor { bytes, offset: 0 }
+    }
+
+    /// A cursor at the same place.
+    pub fn copy(&self) -> Cursor<'a>
+        ensures { result ≡ self.now }
+    {
         Cursor {
-            offset: 0,
-            rest: bytes,
+            bytes: self.bytes,
+            offset: self.offset,
         }
     }
 
@@ -46,12 +53,11 @@ impl<'a> Cursor<'a> {
     pub fn take_u8(&mut self) -> Option<u8>
         ensures { Takes 1 self.old self.new result }
     {
-        if self.rest.is_empty() {
+        if self.offset == self.bytes.len() {
             return None;
         }
-        let number = self.rest[0];
+        let number = self.bytes[self.offset];
         self.offset += 1;
-        self.rest = &self.rest[1..];
         Some(number)
     }
 
@@ -60,12 +66,11 @@ impl<'a> Cursor<'a> {
     pub fn take_u16(&mut self) -> Option<u16>
         ensures { Takes 2 self.old self.new result }
     {
-        if self.rest.len() < 2 {
+        if self.bytes.len() - self.offset < 2 {
             return None;
         }
-        let number = BigEndian::read_u16(self.rest);
+        let number = BigEndian::read_u16(&self.bytes[self.offset..]);
         self.offset += 2;
-        self.rest = &self.rest[2..];
         Some(number)
     }
 
@@ -74,12 +79,11 @@ impl<'a> Cursor<'a> {
     pub fn take_u32(&mut self) -> Option<u32>
         ensures { Takes 4 self.old self.new result }
     {
-        if self.rest.len() < 4 {
+        if self.bytes.len() - self.offset < 4 {
             return None;
         }
-        let number = BigEndian::read_u32(self.rest);
+        let number = BigEndian::read_u32(&self.bytes[self.offset..]);
         self.offset += 4;
-        self.rest = &self.rest[4..];
         Some(number)
     }
 }

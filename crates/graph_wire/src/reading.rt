@@ -148,12 +148,14 @@ fn table_rows(
 {
     let mut table = with_room(alloc, count)?;
     let mut last = None;
+    let mut own = cursor.copy();
     for i in 0..count {
-        let actor = table_row(cursor, last)?;
+        let actor = table_row(&mut own, last)?;
         let named = false;
         table.push(TableActor { actor, named })?;
         last = Some(actor);
     }
+    *cursor = own;
     Ok(table)
 }
 
@@ -339,12 +341,14 @@ fn state_rows(
 {
     let mut rows = no_rows(alloc, count)?;
     let mut last = None;
+    let mut own = cursor.copy();
     for i in 0..count {
-        let row = state_row(cursor, wide, table, last)?;
+        let row = state_row(&mut own, wide, table, last)?;
         let key = row.actor;
         rows.push(row)?;
         last = Some(key);
     }
+    *cursor = own;
     Ok(rows)
 }
 
@@ -375,12 +379,14 @@ fn count_rows(
 {
     let mut rows = no_rows(alloc, count)?;
     let mut last = None;
+    let mut own = cursor.copy();
     for i in 0..count {
-        let row = count_row(cursor, wide, table, last)?;
+        let row = count_row(&mut own, wide, table, last)?;
         let key = row.actor;
         rows.push(row)?;
         last = Some(key);
     }
+    *cursor = own;
     Ok(rows)
 }
 
@@ -411,12 +417,14 @@ fn pair_rows(
 {
     let mut rows = no_rows(alloc, count)?;
     let mut last = None;
+    let mut own = cursor.copy();
     for i in 0..count {
-        let row = pair_row(cursor, wide, table, last)?;
+        let row = pair_row(&mut own, wide, table, last)?;
         let key = (row.owner, row.target);
         rows.push(row)?;
         last = Some(key);
     }
+    *cursor = own;
     Ok(rows)
 }
 

@@ -21,9 +21,9 @@ pub fn mark(table: &mut [TableActor], index: usize) -> Option<ActorId>
     if index >= table.len() {
         return None;
     }
-    let actor = table[index].actor;
-    table[index] = TableActor { actor, named: true };
-    Some(actor)
+    let entry = &mut table[index];
+    entry.named = true;
+    Some(entry.actor)
 }
 
 /// Where the first actor stands that no row names; the first actor of all stands at the offset.

@@ -11,7 +11,7 @@ use Rattle.graph_wire.proofs.reading.count_rows.Goals as goal
 pub returns-in_err-row-clause-gives : goal.returns-in_err-row-clause-gives
 returns-in_err-row-clause-gives c =
     let p = err_from_is_err_and c.from_residual-in_err-row.result c.from_residual-in_err-row.ensures.1 in
-    rw (p.1, p.2) (ends_over count_key (count_row c.args.wide) (actors_of c.loop-i.table) (actors_of c.args.table.now) c.loop-i.invariant.marks.actors c.loop-i.rows c.args.count c.loop-i.i c.loop-i.last c.loop-i.cursor (rows_at count_key (count_row c.args.wide (actors_of c.args.table.now)) c.args.count None c.args.cursor.now) c.in_err-row.field-0.0 c.loop-i-test.true c.in_err-row.ensures.gives c.loop-i.invariant.read)
+    rw (p.1, p.2) (ends_over count_key (count_row c.args.wide) (actors_of c.loop-i.table) (actors_of c.args.table.now) c.loop-i.invariant.marks.actors c.loop-i.rows c.args.count c.loop-i.i c.loop-i.last c.loop-i.own (rows_at count_key (count_row c.args.wide (actors_of c.args.table.now)) c.args.count None c.args.cursor.now) c.in_err-row.field-0.0 c.loop-i-test.true c.in_err-row.ensures.gives c.loop-i.invariant.read)
 
 pub push-requires-clause-rising : goal.push-requires-clause-rising
 push-requires-clause-rising c = counts-rise c.loop-i.last c.loop-i.rows c.in_ok-row.row c.loop-i.invariant.ready c.in_ok-row.ensures.above
@@ -20,10 +20,10 @@ pub loop-i-preserved : goal.loop-i-preserved
 loop-i-preserved c =
     let pushed = c.in_ok-push.ensures.ok in
     record {
-      read = rw pushed (goes_on_over count_key (count_row c.args.wide) (actors_of c.loop-i.table) (actors_of c.args.table.now) c.loop-i.invariant.marks.actors c.loop-i.rows c.args.count c.loop-i.i c.loop-i.last c.loop-i.cursor (rows_at count_key (count_row c.args.wide (actors_of c.args.table.now)) c.args.count None c.args.cursor.now) c.in_ok-row.row c.count_row.new.cursor c.loop-i-test.true c.in_ok-row.ensures.gives c.loop-i.invariant.read);
+      read = rw pushed (goes_on_over count_key (count_row c.args.wide) (actors_of c.loop-i.table) (actors_of c.args.table.now) c.loop-i.invariant.marks.actors c.loop-i.rows c.args.count c.loop-i.i c.loop-i.last c.loop-i.own (rows_at count_key (count_row c.args.wide (actors_of c.args.table.now)) c.args.count None c.args.cursor.now) c.in_ok-row.row c.count_row.new.cursor c.loop-i-test.true c.in_ok-row.ensures.gives c.loop-i.invariant.read);
       ready = rw pushed (counts-push c.loop-i.last c.loop-i.rows c.in_ok-row.row c.loop-i.invariant.ready c.in_ok-row.ensures.above);
       marks = rw pushed (Marks-push (λ (r : ActorCount). r.actor ∷ []) c.loop-i.rows c.in_ok-row.row c.args.table.now c.loop-i.table c.count_row.new.table c.loop-i.invariant.marks c.in_ok-row.ensures.marks);
     }
 
 pub returns-clause-gives : goal.returns-clause-gives
-returns-clause-gives c = is_done count_key (count_row c.args.wide (actors_of c.args.table.now)) c.loop-i.rows c.args.count c.loop-i.i c.loop-i.last c.loop-i.cursor (rows_at count_key (count_row c.args.wide (actors_of c.args.table.now)) c.args.count None c.args.cursor.now) c.loop-i-test.false c.loop-i.invariant.read
+returns-clause-gives c = is_done count_key (count_row c.args.wide (actors_of c.args.table.now)) c.loop-i.rows c.args.count c.loop-i.i c.loop-i.last c.loop-i.own (rows_at count_key (count_row c.args.wide (actors_of c.args.table.now)) c.args.count None c.args.cursor.now) c.loop-i-test.false c.loop-i.invariant.read

@@ -9,7 +9,7 @@ use Rattle.graph_wire.proofs.reading.count_rows.Given as goal
 
 abbrev pub invariant-loop-i : goal.invariant-loop-i
 invariant-loop-i l = record {
-  read : with_front l.rows (rows_at count_key (count_row l.wide (actors_of l.fn.table)) (l.count - l.i) l.last l.cursor) ≡ rows_at count_key (count_row l.wide (actors_of l.fn.table)) l.count None l.fn.cursor;
+  read : with_front l.rows (rows_at count_key (count_row l.wide (actors_of l.fn.table)) (l.count - l.i) l.last l.own) ≡ rows_at count_key (count_row l.wide (actors_of l.fn.table)) l.count None l.fn.cursor;
   ready : CountsReady l.last l.rows;
   marks : Marks (count_names l.rows) l.fn.table l.table;
 }

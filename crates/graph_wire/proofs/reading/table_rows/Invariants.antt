@@ -9,7 +9,7 @@ use Rattle.graph_wire.proofs.reading.table_rows.Given as goal
 
 abbrev pub invariant-loop-i : goal.invariant-loop-i
 invariant-loop-i l = record {
-  read : with_front (actors_of l.table.items) (rows_at actor_key table_row (l.count - l.i) l.last l.cursor) ≡ rows_at actor_key table_row l.count None l.fn.cursor;
+  read : with_front (actors_of l.table.items) (rows_at actor_key table_row (l.count - l.i) l.last l.own) ≡ rows_at actor_key table_row l.count None l.fn.cursor;
   ready : ActorsReady l.last (actors_of l.table.items);
   unmarked : AllByRecursion (λ e. e.named ≡ false) l.table.items;
 }
