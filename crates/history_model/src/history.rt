@@ -52,10 +52,11 @@ impl History {
         ensures ok { OnOk result (self.new.past ≡ event ∷ self.old.past) }
         ensures err { OnErr result (self.new.past ≡ self.old.past) }
     {
-        match self.events.push(event) {
-            Ok(()) => Ok(()),
-            Err(_) => Err(NoMemory),
+        if self.events.reserve(1).is_err() {
+            return Err(NoMemory);
         }
+        self.events.push_reserved(event);
+        Ok(())
     }
 
     /// Takes the last event back; None exactly where there is none. So who pushes an event first can undo it where a later
