@@ -19,7 +19,7 @@ partition_send : IsSend Partition.the_row
 partition_send = search (crosses, frees, sendable) depth 60 fits 100000
 
 positive_send : IsSend PositiveEdges.the_row
-positive_send = search (crosses, maps, sets, frees, sendable, partition_send) depth 60 fits 100000
+positive_send = search (crosses, sendable, partition_send) depth 60 fits 100000
 
 pub table_send : IsSend EdgeTable.the_row
 table_send = search (crosses, sendable, ends_send, index_send, positive_send) depth 60 fits 100000

@@ -1,19 +1,18 @@
 -- An order in which the edges that count stand first, and what a call makes of it.
-use Rattle.std.proofs.Common.{◌&&◌, ◌||◌, ◌≡◌, ◌≢◌, ◌⊎◌, ◌<◌, ◌≤◌, ◌+◌, ◌↔◌, ◌++◌, ℕ, zero, suc, Bool, true, false, List, [], ◌∷◌, Option, None, Some, get_or, length, take, refl, sym, ◌∙◌, ap, subst, inl, inr, arith, get_or-set_other, get_or-set_same, length-append}
+use Rattle.std.proofs.Common.{◌&&◌, ◌||◌, ◌≡◌, ◌≢◌, ◌⊎◌, ◌<◌, ◌≤◌, ◌+◌, ◌-◌, ◌↔◌, ◌++◌, ℕ, zero, suc, Bool, true, false, List, [], ◌∷◌, Option, None, Some, get_or, length, take, refl, sym, ◌∙◌, ap, subst, inl, inr, arith, get_or-set_other, get_or-set_same, length-append}
 use Rattle.std.proofs.Math.ListN.{set, length-set, get_or-append}
 use Rattle.std.proofs.Math.Seq.{get_or-append_seam}
 use Rattle.std.proofs.lemmas.Bool.{cases_eq, cases_lt, eq-eqb, false≢true, ne_eqb, or_left, or_right}
-use Rattle.std.proofs.lemmas.Bool.Decides.{nat_tests}
-use Rattle.std.proofs.lemmas.List.{length-map, take_all}
+use Rattle.std.proofs.lemmas.List.{get_or_append_left, get_or-append_right, get_or_default, get_or_past, length-map, take_all}
 use Rattle.std.proofs.lemmas.List.Folds.{list_any_more}
 use Rattle.std.proofs.lemmas.Option.{none-some}
-use Rattle.std.specs.BTreeMap.{BTreeMap, WritesThrough, is_at}
-use Rattle.std.specs.List.{list_any}
-use Rattle.std.specs.Option.{IsSome}
-use Rattle.std.specs.Ordering.{nat_cmp}
+use Rattle.std.specs.Box.{box_value}
+use Rattle.std.specs.Global.{Box}
+use Rattle.std.specs.List.{AppendsResults, FoldsTo, list_any}
+use Rattle.std.specs.Option.{option_map}
 use Rattle.std.specs.Prelude.{nat_eq}
 use Rattle.crgc_ids.specs.Members.{IsAmong}
-use Rattle.edge_table.specs.Partition.{AreRising, CountsAt, IsExchanged, IsKeptOf, IsParted, Parted, kept_of, nth_end, nth_of, numbers_in}
+use Rattle.edge_table.specs.Partition.{AreRising, CountsAt, IsExchanged, IsKeptOf, IsParted, Kept, Parted, kept_of, nth_end, nth_of, numbers_in}
 use Rattle.edge_table.specs.declared.positive.TheConstants.{MANY}
 use Rattle.edge_table.proofs.IndexLemmas.{among-at}
 
@@ -334,15 +333,30 @@ pub kept-short : (ends : List (ℕ × ℕ)) (counts : ℕ → Bool) (kept : Opti
 kept-short ends counts None short is = refl
 kept-short ends counts (Some s) short is = (let long = (is s refl).0 in absurd (omega arith))
 
--- another place is at no entry of this one
-pub place-apart : (place p : ℕ) → p ≢ place → is_at (nat_cmp place) p ≡ false
-place-apart place p apart = grind (arith, nat_tests)
+-- what is read at an entry
+pub kept-read : (kept : Kept) (place : ℕ) (read : Option (Box Parted)) (b : Box Parted) → place < length kept → read ≡ get_or kept place read → read ≡ Some b → kept_of kept place ≡ Some b.value
+kept-read kept place read b inside at is = ap (option_map box_value) (get_or_default kept place None read inside ∙ sym at ∙ is)
 
--- an entry that is written through
-pub kept-written : (old new : BTreeMap ℕ Parted) (place : ℕ) (was is : Parted) → Some was ≡ kept_of old.entries place → WritesThrough nat_cmp (nat_cmp place) old is new → (kept_of new.entries place ≡ Some is) × ((p : ℕ) → p ≢ place → kept_of new.entries p ≡ kept_of old.entries p)
-kept-written old new place was is found written =
-    let updates = written.3 (subst IsSome found refl) in
-    (updates.1, λ p apart. updates.2 p (place-apart place p apart))
+-- an entry that is written
+pub kept-written : (kept : Kept) (place : ℕ) (is : Option (Box Parted)) → place < length kept → kept_of (set kept place is) place ≡ option_map box_value is
+kept-written kept place is inside = ap (option_map box_value) (get_or-set_same kept place is None inside)
+
+-- entries of which nothing is kept, behind the others
+nothing-more : {F : Type 0} (step : F → Option (Box Parted) → F → Type 0) → ((f : F) (x : Option (Box Parted)) (g : F) → step f x g → x ≡ None) → (more : Kept) (f g : F) → FoldsTo step f more g
+    → (i : ℕ) → get_or more i None ≡ None
+nothing-more step none [] f g folds i = refl
+nothing-more step none (x ∷ more) f g (h, called, rest) zero = none f x h called
+nothing-more step none (x ∷ more) f g (h, called, rest) (suc i) = nothing-more step none more h g rest i
+
+pub kept-longer : {F : Type 0} {step : F → Option (Box Parted) → F → Type 0} (kept new : Kept) (count : ℕ) (f : F) → length kept ≤ count → AppendsResults step (take count kept) new f
+    → ((f : F) (x : Option (Box Parted)) (g : F) → step f x g → x ≡ None) → (p : ℕ) → kept_of new p ≡ kept_of kept p
+kept-longer {step} kept new count f few (more, last, is, folds) none p = ap (option_map box_value) (elim (cases_lt p (length kept)) [
+  | inl inside ↦ at ∙ get_or_append_left kept more None p inside
+  | inr beyond ↦ at ∙ get_or-append_right kept more (length kept) p None refl (omega arith) ∙ nothing-more step none more f last folds (p - length kept) ∙ sym (get_or_past kept p None (omega arith))
+])
+  where
+    at : get_or new p None ≡ get_or (kept ++ more) p None
+    at = ap (λ (xs : Kept). get_or xs p None) (is ∙ ap (λ (xs : Kept). xs ++ more) (take_all count kept few))
 
 -- ---- numbers that are looked at in turn
 

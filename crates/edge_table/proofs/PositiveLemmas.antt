@@ -4,7 +4,7 @@ use Rattle.std.proofs.lemmas.Bool.{cases_eq, eq-eqb, ne_eqb}
 use Rattle.std.proofs.lemmas.List.{append-nil, get_or-take, get_or_append_left, length-take-le}
 use Rattle.crgc_ids.specs.Members.{IsAmong}
 use Rattle.edge_table.specs.Ends.{numbers_of}
-use Rattle.edge_table.specs.Partition.{AreParted, AreRising, CountsAt, IsKeptOf, IsParted, Parted, kept_of, nth_end, nth_of, numbers_in}
+use Rattle.edge_table.specs.Partition.{AreParted, AreRising, CountsAt, IsKeptOf, IsParted, Kept, Parted, kept_of, nth_end, nth_of, numbers_in}
 use Rattle.edge_table.specs.Table.{ArePositive, is_positive, is_positive_at, no_edge}
 use Rattle.edge_table.specs.declared.table.Edge.{Edge}
 use Rattle.edge_table.proofs.IndexLemmas.{among-at}
@@ -94,13 +94,13 @@ module _ (end other : Edge → ℕ) (none : end no_edge ≡ 0) where
     list-same p = sym (ends-same end other none edges (set edges i e) no_other ends others_stay p)
 
     -- and is positive as before
-    pub parted-same : (kept : List (ℕ × Parted)) → is_positive (get_or edges i no_edge) ≡ is_positive e → AreParted (ends_at end other edges) (is_positive_at edges) kept → AreParted (ends_at end other (set edges i e)) (is_positive_at (set edges i e)) kept
+    pub parted-same : (kept : Kept) → is_positive (get_or edges i no_edge) ≡ is_positive e → AreParted (ends_at end other edges) (is_positive_at edges) kept → AreParted (ends_at end other (set edges i e)) (is_positive_at (set edges i e)) kept
     parted-same kept same parted p =
         subst (λ ns. IsKeptOf ns (is_positive_at (set edges i e)) (kept_of kept p)) (list-same p)
         (kept-alike (ends_at end other edges p) (is_positive_at edges) (is_positive_at (set edges i e)) (kept_of kept p) (λ n among. counts-same edges i e inside same n) (parted p))
 
     -- or is set in what is kept of its place
-    pub parted-set : (old new : List (ℕ × Parted)) (place : ℕ) (list : List (ℕ × ℕ)) → list ≡ ends_at end other edges place → end (get_or edges i no_edge) ≡ place → AreParted (ends_at end other edges) (is_positive_at edges) old
+    pub parted-set : (old new : Kept) (place : ℕ) (list : List (ℕ × ℕ)) → list ≡ ends_at end other edges place → end (get_or edges i no_edge) ≡ place → AreParted (ends_at end other edges) (is_positive_at edges) old
         → ((before after : ℕ → Bool) → CountsAt before after i (is_positive e) → IsKeptOf list before (kept_of old place) → IsKeptOf list after (kept_of new place))
         → ((p : ℕ) → p ≢ place → kept_of new p ≡ kept_of old p) → AreParted (ends_at end other (set edges i e)) (is_positive_at (set edges i e)) new
     parted-set old new place list is at parted set_there others p = elim (cases_eq p place) [
@@ -127,13 +127,13 @@ module _ (end other : Edge → ℕ) (none : end no_edge ≡ 0) where
     alike p n among = counts-longer edges e n (listed_is edges p n among).0
 
     -- what was kept of its place is right for the longer list of edges
-    pub kept-before : (kept : List (ℕ × Parted)) (list : List (ℕ × ℕ)) → list ≡ ends_at end other (edges ++ e ∷ []) (end e) → AreParted (ends_at end other edges) (is_positive_at edges) kept
+    pub kept-before : (kept : Kept) (list : List (ℕ × ℕ)) → list ≡ ends_at end other (edges ++ e ∷ []) (end e) → AreParted (ends_at end other edges) (is_positive_at edges) kept
         → (before : List (ℕ × ℕ)) × (list ≡ before ++ (other e, length edges) ∷ []) × IsKeptOf before (is_positive_at (edges ++ e ∷ [])) (kept_of kept (end e))
     kept-before kept list is parted =
         (ends_at end other edges (end e), is ∙ more_at (end e) refl, kept-alike (ends_at end other edges (end e)) (is_positive_at edges) (is_positive_at (edges ++ e ∷ [])) (kept_of kept (end e)) (alike (end e)) (parted (end e)))
 
     -- its place has grown
-    pub parted-grown : (old new : List (ℕ × Parted)) (list : List (ℕ × ℕ)) → list ≡ ends_at end other (edges ++ e ∷ []) (end e) → AreParted (ends_at end other edges) (is_positive_at edges) old
+    pub parted-grown : (old new : Kept) (list : List (ℕ × ℕ)) → list ≡ ends_at end other (edges ++ e ∷ []) (end e) → AreParted (ends_at end other edges) (is_positive_at edges) old
         → IsKeptOf list (is_positive_at (edges ++ e ∷ [])) (kept_of new (end e)) → ((p : ℕ) → p ≢ end e → kept_of new p ≡ kept_of old p) → AreParted (ends_at end other (edges ++ e ∷ [])) (is_positive_at (edges ++ e ∷ [])) new
     parted-grown old new list is parted there others p = elim (cases_eq p (end e)) [
       | inl same ↦ subst (λ q. IsKeptOf (ends_at end other (edges ++ e ∷ []) q) (is_positive_at (edges ++ e ∷ [])) (kept_of new q)) (sym same)
@@ -144,7 +144,7 @@ module _ (end other : Edge → ℕ) (none : end no_edge ≡ 0) where
     ]
 
     -- nothing is kept of its place
-    pub parted-forgotten : (old new : List (ℕ × Parted)) → AreParted (ends_at end other (edges ++ e ∷ [])) (is_positive_at (edges ++ e ∷ [])) old
+    pub parted-forgotten : (old new : Kept) → AreParted (ends_at end other (edges ++ e ∷ [])) (is_positive_at (edges ++ e ∷ [])) old
         → kept_of new (end e) ≡ None → ((p : ℕ) → p ≢ end e → kept_of new p ≡ kept_of old p) → AreParted (ends_at end other edges) (is_positive_at edges) new
     parted-forgotten old new parted gone others p = elim (cases_eq p (end e)) [
       | inl same ↦ kept-none (ends_at end other edges p) (is_positive_at edges) (kept_of new p) (ap (kept_of new) same ∙ gone)

@@ -1,9 +1,9 @@
 -- Lists of edges, each by the place of its other end and its number, in which those that count stand first.
-use Rattle.std.specs.Prelude.{◌≡◌, ◌≢◌, ◌<◌, ◌≤◌, ◌↔◌, ℕ, Bool, true, List, Option, Some, length, map, slice_index_or, slice_set}
-use Rattle.std.specs.BTreeMap.{is_at}
+use Rattle.std.specs.Prelude.{◌≡◌, ◌≢◌, ◌<◌, ◌≤◌, ◌↔◌, ℕ, Bool, true, List, Option, None, Some, length, map, slice_index_or, slice_set}
+use Rattle.std.specs.Box.{box_value}
+use Rattle.std.specs.Global.{Box}
 use Rattle.std.specs.List.{SwappedAt}
-use Rattle.std.specs.Map.{lookup}
-use Rattle.std.specs.Ordering.{nat_cmp}
+use Rattle.std.specs.Option.{option_map}
 use Rattle.edge_table.specs.declared.positive.TheConstants.{MANY}
 
 -- the edges in an order, those that count first; for each of the order, at which place of the list it stands; for each of the list,
@@ -55,14 +55,18 @@ pub record CountsAt (old new : ℕ → Bool) (number : ℕ) (counts : Bool) : Ty
   pub here : new number ≡ counts
   pub others : (n : ℕ) → n ≢ number → new n ≡ old n
 
+-- what is kept of each place, by place; of those beyond the end, nothing is
+abbrev pub Kept : Type 0
+Kept = List (Option (Box Parted))
+
 -- what is kept of a place
-abbrev pub kept_of : List (ℕ × Parted) → ℕ → Option Parted
-kept_of entries place = lookup (is_at (nat_cmp place)) entries
+abbrev pub kept_of : Kept → ℕ → Option Parted
+kept_of kept place = option_map box_value (slice_index_or kept place None)
 
 -- it is right for the place's list, which is not short
 abbrev pub IsKeptOf : List (ℕ × ℕ) → (ℕ → Bool) → Option Parted → Type 0
 IsKeptOf ends counts kept = (s : Parted) → kept ≡ Some s → (MANY < length ends) × IsParted ends counts s
 
 -- so is what is kept of each place
-abbrev pub AreParted : (ℕ → List (ℕ × ℕ)) → (ℕ → Bool) → List (ℕ × Parted) → Type 0
-AreParted lists counts entries = (place : ℕ) → IsKeptOf (lists place) counts (kept_of entries place)
+abbrev pub AreParted : (ℕ → List (ℕ × ℕ)) → (ℕ → Bool) → Kept → Type 0
+AreParted lists counts kept = (place : ℕ) → IsKeptOf (lists place) counts (kept_of kept place)

@@ -4,7 +4,7 @@ use Rattle.std.specs.List.{AllByRecursion, IsDistinct}
 use Rattle.crgc_ids.specs.Actor.{Actor, same_actor}
 use Rattle.crgc_ids.specs.Members.{IsAmong}
 use Rattle.edge_table.specs.Ends.{PlaceEnds, no_ends, numbers_of}
-use Rattle.edge_table.specs.Partition.{AreParted, Parted}
+use Rattle.edge_table.specs.Partition.{AreParted, Kept}
 use Rattle.edge_table.specs.declared.table.Edge.{Edge}
 
 -- the pairs of an owner and a target in the order in which they were added, what is kept of each, and how many places there are
@@ -86,6 +86,6 @@ pub record IsTable (pairs : List (Actor × Actor)) (edges : List Edge) (places :
   pub to : (p : ℕ) → (slice_index_or places p no_ends).to ≡ ends_to edges p
 
 -- what is kept of the places from which, and to which, many edges lead is right
-pub record ArePositiveKept (edges : List Edge) (owners targets : List (ℕ × Parted)) : Type 0 where
+pub record ArePositiveKept (edges : List Edge) (owners targets : Kept) : Type 0 where
   pub from : AreParted (ends_from edges) (is_positive_at edges) owners
   pub to : AreParted (ends_to edges) (is_positive_at edges) targets

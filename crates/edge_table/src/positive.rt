@@ -1,5 +1,5 @@
 //! The positive edges of places that have many edges.
-ghost use Rattle.std.specs.Prelude.{◌≡◌, ◌≢◌, ◌<◌, ◌^◌, ◌++◌, ℕ, Bool, List, true, false, None, Some, [], ◌∷◌, IfOk, IfSome, length, take};
+ghost use Rattle.std.specs.Prelude.{◌≡◌, ◌≢◌, ◌<◌, ◌^◌, ◌++◌, ℕ, Bool, List, true, false, None, Some, [], ◌∷◌, IfOk, IfSome, OnOk, length, take};
 ghost use Rattle.crgc_ids.specs.Members.{IsAmong};
 ghost use Rattle.edge_table.specs.Partition.{AreRising, CountsAt, IsKeptOf, IsParted, Parted, kept_of, numbers_in};
 ghost use Rattle.edge_table.specs.Table.{is_positive, is_positive_at};
@@ -8,27 +8,26 @@ use crate::partition::Partition;
 use crate::table::Edge;
 use crgc_ids::NoMemory;
 use std::alloc::Global;
-use std::collections::BTreeMap;
 use std::marker::Model;
 
 /// How many edges a place may have at an end before its positive ones are kept apart.
 pub const MANY: usize = 128;
 
 /// For places that have more than 128 edges at one end, these edges, the positive first, each by the place of its other end and its
-/// number. A place for which there was no memory is left out. Contracts see the places and what is kept of each.
+/// number. What is kept of a place stands in a vector at its index, with nothing for a place that has fewer edges or for which there
+/// was no memory; the vector ends with the highest place of which something was kept. Contracts see what is kept of each place.
 #[derive(Drop)]
 pub struct PositiveEdges {
     alloc: Global,
-    places: BTreeMap<u32, Partition>,
+    places: Vec<Option<Box<Partition>>>,
 }
 
 impl Model for PositiveEdges {
-    ghost use Rattle.std.specs.Prelude.{ℕ, List};
-    ghost use Rattle.edge_table.specs.Partition.{Parted};
+    ghost use Rattle.edge_table.specs.Partition.{Kept};
 
-    ghost Value = { List (ℕ × Parted) };
+    ghost Value = { Kept };
 
-    ghost view = { λ p. p.places.entries };
+    ghost view = { λ p. p.places.items };
 }
 
 impl PositiveEdges {
@@ -38,12 +37,13 @@ impl PositiveEdges {
     {
         PositiveEdges {
             alloc,
-            places: BTreeMap::new(alloc),
+            places: Vec::new(alloc),
         }
     }
 
     /// The place has these edges, the last of which is new and not positive. Where there is no memory for it, nothing is kept of the
-    /// place. Amortized logarithmic time.
+    /// place. Amortized constant time, or linear time in these edges where they are more than 128 and nothing was kept of the place;
+    /// and linear time in the place where it is the first so high.
     #[inline(always)]
     pub fn grow(&mut self, place: u32, ends: &[(u32, u32)], end: (u32, u32), edges: &[Edge])
         requires rising { AreRising (numbers_in ends.now) }
@@ -76,7 +76,10 @@ impl PositiveEdges {
         ensures none { result ≡ false → kept_of self.new place ≡ None }
         ensures others { (p : ℕ) → p ≢ place → kept_of self.new p ≡ kept_of self.old p }
     {
-        let Some(partition) = self.places.get_mut(&place) else {
+        let Some(kept) = self.places.get_mut(place as usize) else {
+            return false;
+        };
+        let Some(partition) = kept else {
             return false;
         };
         if partition.push(end).is_ok() {
@@ -86,24 +89,49 @@ impl PositiveEdges {
         false
     }
 
-    /// This is kept of the place from now on, if there is memory for it; before, nothing was.
+    /// This is kept of the place from now on, if there is memory for it; before, nothing was. Constant time, or linear time in the
+    /// place where it is the first so high.
     fn keep(&mut self, place: u32, partition: Partition)
         requires { kept_of self.old place ≡ None }
         ensures kept { (s : Parted) → kept_of self.new place ≡ Some s → s ≡ partition }
         ensures others { (p : ℕ) → p ≢ place → kept_of self.new p ≡ kept_of self.old p }
     {
-        let _kept = self.places.insert(place, partition);
+        let Ok(partition) = Box::new(self.alloc, partition) else {
+            return;
+        };
+        if self.reach(place).is_ok() {
+            self.places[place as usize] = Some(partition);
+        }
     }
 
-    /// Nothing is kept of the place from now on. Logarithmic time.
+    /// The vector has an entry for the place. After `NoMemory` it is as before. Constant time, or linear time in the place where it is
+    /// the first so high: all calls together take linear time in the highest place.
+    fn reach(&mut self, place: u32) -> Result<(), NoMemory>
+        ensures ok { OnOk result (place < length self.new) }
+        ensures kept { (p : ℕ) → kept_of self.new p ≡ kept_of self.old p }
+    {
+        let index = place as usize;
+        if index < self.places.len() {
+            return Ok(());
+        }
+        if self.places.resize_with(index + 1, || None).is_err() {
+            return Err(NoMemory);
+        }
+        Ok(())
+    }
+
+    /// Nothing is kept of the place from now on. Constant time.
     pub fn forget(&mut self, place: u32)
         ensures none { kept_of self.new place ≡ None }
         ensures others { (p : ℕ) → p ≢ place → kept_of self.new p ≡ kept_of self.old p }
     {
-        self.places.remove(&place);
+        if let Some(kept) = self.places.get_mut(place as usize) {
+            *kept = None;
+        }
     }
 
-    /// The edge with this number, which is one of these of the place, is positive from now on, or is not. Logarithmic time.
+    /// The edge with this number, which is one of these of the place, is positive from now on, or is not. Constant time where these
+    /// are few or it is the last of them, else logarithmic time.
     #[inline(always)]
     pub fn set(&mut self, place: u32, ends: &[(u32, u32)], number: u32, counts: bool)
         requires rising { AreRising (numbers_in ends.now) }
@@ -117,20 +145,23 @@ impl PositiveEdges {
         if ends.len() <= MANY {
             return;
         }
-        let Some(partition) = self.places.get_mut(&place) else {
+        let Some(kept) = self.places.get_mut(place as usize) else {
+            return;
+        };
+        let Some(partition) = kept else {
             return;
         };
         partition.set(ends, number, counts);
     }
 
-    /// The positive edges of the place; None where nothing is kept of it. Logarithmic time.
+    /// The positive edges of the place; None where nothing is kept of it. Constant time.
     pub fn positive(&self, place: u32) -> Option<&[(u32, u32)]>
         requires { (ends : List (ℕ × ℕ)) × (counts : ℕ → Bool) × IsKeptOf ends counts (kept_of self.now place) }
         ensures { IfSome result (λ ends. (s : Parted) × (kept_of self.now place ≡ Some s) × (ends.now ≡ take s.front s.order)) }
     {
-        match self.places.get(&place) {
-            Some(partition) => Some(partition.front()),
-            None => None,
+        match self.places.get(place as usize) {
+            Some(Some(partition)) => Some(partition.front()),
+            _ => None,
         }
     }
 }

@@ -141,8 +141,9 @@ impl EdgeTable {
     }
 
     /// There is one edge more, the last, with nothing given and released; its number is the answer. After `NoMemory`, which
-    /// comes too where there are 2^32 - 1 edges, all is as before. Constant time, or logarithmic time where the edge is among the
-    /// first 8 in neither list, or its owner or its target has more than 128 edges; amortized.
+    /// comes too where there are 2^32 - 1 edges, all is as before. Amortized constant time, or logarithmic time where the edge is among
+    /// the first 8 in neither list; but linear time in the edges from its owner or to its target where these are more than 128 and the
+    /// positive ones not kept apart, as after one of them was taken away.
     pub fn add(
         &mut self,
         owner: ActorId,
@@ -292,7 +293,7 @@ impl EdgeTable {
 
     /// The positive edges from the place, along which more references were given than released, of each the place of its target and
     /// its number. If the place has more than 128 edges there is no other, as long as there was memory to keep them apart; else there
-    /// may be others of its edges. Constant time, or logarithmic time where it has more than 128 edges.
+    /// may be others of its edges. Constant time.
     pub fn positive_from(&self, place: u32) -> &[(u32, u32)]
         requires { place < self.now.places }
         ensures { ArePositive (λ e. e.owner) (λ e. e.target) self.now.edges place result.now }

@@ -1,5 +1,5 @@
 use Rattle.std.proofs.Common.{◌<◌, ◌++◌, ℕ, List, [], ◌∷◌, length, refl, subst, sym}
-use Rattle.edge_table.specs.Partition.{AreParted, Parted}
+use Rattle.edge_table.specs.Partition.{AreParted, Kept}
 use Rattle.edge_table.specs.Table.{Edges, is_positive_at}
 use Rattle.edge_table.specs.declared.table.Edge.{Edge}
 use Rattle.edge_table.proofs.EndsLemmas.{ends_at}
@@ -23,6 +23,6 @@ invariant_of-self c =
       ),
     )
   where
-    was : (end other : Edge → ℕ) (kept : List (ℕ × Parted)) → AreParted (ends_at end other c.self.inside.edges.items) (is_positive_at c.self.inside.edges.items) kept
+    was : (end other : Edge → ℕ) (kept : Kept) → AreParted (ends_at end other c.self.inside.edges.items) (is_positive_at c.self.inside.edges.items) kept
         → AreParted (ends_at end other (c.pop-2.new.self.items ++ c.in-Some.edge ∷ [])) (is_positive_at (c.pop-2.new.self.items ++ c.in-Some.edge ∷ [])) kept
     was end other kept = subst (λ (es : List Edge). AreParted (ends_at end other es) (is_positive_at es) kept) c.in-Some.ensures.items
