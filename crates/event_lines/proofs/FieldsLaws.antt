@@ -43,7 +43,7 @@ number_of-some limit n w e =
     let same = (bytes_eq-Decides (decimal v) w).0 t.1 in
     (omega (arith, t.2), ap decimal (sym t.2) ∙ same)
 
-none-from_each : (o : Option ℕ) → ((n : ℕ) → o ≡ Some n → ⊥) → o ≡ None
+pub none-from_each : (o : Option ℕ) → ((n : ℕ) → o ≡ Some n → ⊥) → o ≡ None
 none-from_each None h = refl
 none-from_each (Some n) h = absurd (h n refl)
 

@@ -1,5 +1,6 @@
 pub mod PiecesLaws
 pub mod FieldsLaws
+pub mod ActorsLaws
 pub mod ListsLaws
 pub mod ShapesLaws
 pub mod FreeLaws

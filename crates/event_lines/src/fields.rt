@@ -3,7 +3,7 @@ ghost use Rattle.std.specs.Prelude.{◌≡◌, ◌<◌, ◌≤◌, ◌^◌, drop
 ghost use Rattle.journal_model.specs.Fields.{actor_of, first_actor, first_name, first_number, number_of};
 ghost use Rattle.journal_model.specs.Shapes.{actor_field, ended, name_field, named_number, node_field, number_field};
 
-use crate::pieces::Pieces;
+use crate::pieces::{Pieces, first_place};
 use crgc_ids::{ActorId, MOST_ACTORS, NodeId};
 use journal_model::LineFault;
 
@@ -24,10 +24,12 @@ pub fn number(word: &[u8], limit: u64) -> Option<u64>
     }
     let mut n = 0;
     for b in word {
-        if !b.is_ascii_digit() {
+        // A byte below '0' wraps to a great number.
+        let digit = (*b as u64).wrapping_sub(b'0' as u64);
+        if digit > 9 {
             return None;
         }
-        n = n * 10 + (*b - b'0') as u64;
+        n = n * 10 + digit;
         if n >= limit {
             return None;
         }
@@ -35,15 +37,15 @@ pub fn number(word: &[u8], limit: u64) -> Option<u64>
     Some(n)
 }
 
-/// The actor that is spelled so.
+/// The actor that is spelled so: its node and its serial on the two sides of the first dot. Another dot is no digit, so
+/// the serial has none.
 #[inline(always)]
 pub fn actor(word: &[u8]) -> Option<ActorId>
     ensures { result ≡ actor_of word.now }
 {
-    let mut parts = Pieces::of(word, b'.');
-    let node = parts.node()?;
-    let serial = parts.number(u64::from(MOST_ACTORS))?;
-    parts.end()?;
+    let dot = first_place(word, b'.')?;
+    let node = node(&word[..dot])?;
+    let serial = number(&word[dot + 1..], u64::from(MOST_ACTORS))?;
     ActorId::new(node, serial as u32)
 }
 
@@ -85,6 +87,7 @@ impl Pieces<'_> {
     }
 
     /// Takes the first piece, as an actor.
+    #[inline(always)]
     pub fn actor(&mut self) -> Option<ActorId>
         ensures value { result ≡ first_actor self.old }
         ensures rest { self.new ≡ drop 1 self.old }

@@ -1,5 +1,5 @@
 //! Bytes cut at a separator, piece by piece.
-ghost use Rattle.std.specs.Prelude.{◌≡◌, ◌<◌, ◌≤◌, ◌≢◌, ℕ, length, drop, slice_get, slice_index};
+ghost use Rattle.std.specs.Prelude.{◌≡◌, ◌<◌, ◌≢◌, ℕ, length, drop, slice_get, slice_index, IfSome, IfNone};
 ghost use Rattle.std.specs.Option.{option_copied};
 ghost use Rattle.journal_model.specs.Fields.{nothing_left, pieces};
 
@@ -45,11 +45,10 @@ impl<'a> Pieces<'a> {
             return None;
         }
         let bytes = self.rest;
-        let end = first_place(bytes, self.separator);
-        if end == bytes.len() {
+        let Some(end) = first_place(bytes, self.separator) else {
             self.is_over = true;
             return Some(bytes);
-        }
+        };
         self.rest = &bytes[end + 1..];
         Some(&bytes[..end])
     }
@@ -62,16 +61,17 @@ impl<'a> Pieces<'a> {
     }
 }
 
-/// The place of the first such byte, or the length where there is none.
-fn first_place(bytes: &[u8], byte: u8) -> usize
-    ensures within { result ≤ length bytes.now }
-    ensures before { (k : ℕ) → k < result → slice_index bytes.now k ≢ byte }
-    ensures found { result < length bytes.now → slice_index bytes.now result ≡ byte }
+/// The place of the first such byte; None where there is none.
+pub fn first_place(bytes: &[u8], byte: u8) -> Option<usize>
+    ensures within { IfSome result (λ i. i < length bytes.now) }
+    ensures found { IfSome result (λ i. slice_index bytes.now i ≡ byte) }
+    ensures before { IfSome result (λ i. (k : ℕ) → k < i → slice_index bytes.now k ≢ byte) }
+    ensures none { IfNone result ((k : ℕ) → k < length bytes.now → slice_index bytes.now k ≢ byte) }
 {
     for (i, b) in bytes.iter().enumerate() {
         if *b == byte {
-            return i;
+            return Some(i);
         }
     }
-    bytes.len()
+    None
 }

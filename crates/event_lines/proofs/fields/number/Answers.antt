@@ -1,6 +1,7 @@
-use Rattle.std.proofs.Common.{◌≡◌, ◌<◌, ◌+◌, length, get_or, take, arith, subst}
+use Rattle.std.proofs.Common.{◌≡◌, ◌<◌, ◌+◌, ◌-◌, ◌%◌, ◌^◌, length, get_or, take, arith, subst}
 use Rattle.std.proofs.lemmas.Grind.{common_steps}
 use Rattle.std.proofs.lemmas.List.{take_all}
+use Rattle.std.specs.Int.{IsInRange}
 use Rattle.std.specs.Str.Parse.{AllDigits, digits_value}
 use Rattle.event_lines.proofs.FieldsLaws.{number_of-digits, number_of-empty, number_of-great, number_of-leading_zero, number_of-no_digit, read-more, value-more}
 use Rattle.event_lines.proofs.fields.number.Goals as goal
@@ -12,17 +13,25 @@ returns-then-is_empty-clause-value c = number_of-empty c.args.limit c.args.word.
 pub returns-then-word-gt1-clause-value : goal.returns-then-word-gt1-clause-value
 returns-then-word-gt1-clause-value c = number_of-leading_zero c.args.limit c.args.word.now c.requires.small c.if-word-eq48.true c.if-word-gt1.true
 
-pub returns-then-not-is_ascii_digit-clause-value : goal.returns-then-not-is_ascii_digit-clause-value
-returns-then-not-is_ascii_digit-clause-value c =
-    number_of-no_digit c.args.limit c.args.word.now c.requires.small c.loop-b.b-index c.loop-b-test.true (let h = c.if-not-is_ascii_digit.ensures.cases in λ r. omega (arith, h, r))
+pub returns-then-digit-gt9-clause-value : goal.returns-then-digit-gt9-clause-value
+returns-then-digit-gt9-clause-value c =
+    number_of-no_digit c.args.limit c.args.word.now c.requires.small c.loop-b.b-index c.loop-b-test.true (λ r. omega (arith, r, c.if-digit-gt9.true))
 
 pub returns-then-n-limit-clause-value : goal.returns-then-n-limit-clause-value
 returns-then-n-limit-clause-value c =
-    let more = value-more c.args.limit c.args.word.now c.loop-b.b-index c.loop-b.n c.loop-b-test.true c.loop-b.invariant c.if-not-is_ascii_digit.ensures.cases in
-    number_of-great c.args.limit c.args.word.now c.requires.small (c.loop-b.b-index + 1) (omega arith)
+    let w = c.args.word.now in
+    let digit : IsInRange 48 57 (get_or w c.loop-b.b-index 0) = omega (arith, c.if-digit-gt9.false) in
+    let more = value-more c.args.limit w c.loop-b.b-index c.loop-b.n c.loop-b-test.true c.loop-b.invariant digit in
+    number_of-great c.args.limit w c.requires.small (c.loop-b.b-index + 1) (omega (arith, more, digit))
 
 pub loop-b-preserved : goal.loop-b-preserved
-loop-b-preserved c = read-more c.args.limit c.args.word.now c.loop-b.b-index c.loop-b.n c.loop-b-test.true c.loop-b.invariant c.if-not-is_ascii_digit.ensures.cases (omega arith)
+loop-b-preserved c =
+    let w = c.args.word.now in
+    let b = get_or w c.loop-b.b-index 0 in
+    let digit : IsInRange 48 57 b = omega (arith, c.if-digit-gt9.false) in
+    let more = read-more c.args.limit w c.loop-b.b-index c.loop-b.n c.loop-b-test.true c.loop-b.invariant digit (omega (arith, digit)) in
+    let unwrapped : b - 48 ≡ (b + (2 ^ 64 - 48)) % 2 ^ 64 = omega (arith, digit) in
+    rw unwrapped at more
 
 pub returns-clause-value : goal.returns-clause-value
 returns-clause-value c =
