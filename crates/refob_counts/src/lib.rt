@@ -5,9 +5,11 @@ ghost use Rattle.std.specs.Prelude.{◌≡◌, ◌+◌, ◌-◌, ◌<◌, ◌≤
 ghost use Rattle.crgc_ids.specs.Actor.{Actor, same_actor};
 ghost use Rattle.refob_counts.specs.Counts.{CountTheSame, IsCountChange, IsGain, count_of, is_free_for};
 
+mod others;
+
+use crate::others::OtherCounts;
 use crgc_ids::{ActorId, NoMemory};
 use std::alloc::Global;
-use std::collections::BTreeMap;
 use std::marker::Model;
 
 /// No reference to the target is held, so none can be released.
@@ -15,12 +17,11 @@ use std::marker::Model;
 pub struct NotHeld;
 
 /// How many references to each actor are held. It keeps its allocator. The first target, for most actors the actor itself,
-/// stands beside the map of the others, so that most actors need no map. Contracts see the list of the targets and their
-/// counts, and read it by `count_of`.
+/// stands beside the others. Contracts see the list of the targets and their counts, and read it by `count_of`.
 #[derive(Debug, Drop)]
 pub struct RefCounts {
     first: Option<(ActorId, u32)>,
-    others: BTreeMap<ActorId, u32>,
+    others: OtherCounts,
 }
 
 impl Model for RefCounts {
@@ -30,7 +31,7 @@ impl Model for RefCounts {
 
     ghost Value = { List (Actor × ℕ) };
 
-    ghost view = { λ r. with_first r.first r.others.entries };
+    ghost view = { λ r. with_first r.first r.others };
 }
 
 impl RefCounts {
@@ -40,7 +41,7 @@ impl RefCounts {
     {
         RefCounts {
             first: None,
-            others: BTreeMap::new(alloc),
+            others: OtherCounts::new(alloc),
         }
     }
 
@@ -58,7 +59,7 @@ impl RefCounts {
             self.first = Some((target, held + count));
             return Ok(());
         }
-        add_in(&mut self.others, target, count)
+        self.others.add(target, count)
     }
 
     /// So many references to the target are held from now on. `NoMemory` comes only where none was, and all is then as before.
@@ -72,7 +73,7 @@ impl RefCounts {
             self.first = Some((target, count));
             return Ok(());
         }
-        set_in(&mut self.others, target, count)
+        self.others.set(target, count)
     }
 
     /// One reference to each of these targets is held more, as often as it comes, and no other count changes. `NoMemory` comes
@@ -130,7 +131,7 @@ impl RefCounts {
         if is_free_for(self.first, target) {
             self.first = Some((target, 0));
         } else {
-            self.others.remove(&target);
+            self.others.clear(target);
         }
     }
 
@@ -140,7 +141,7 @@ impl RefCounts {
     {
         match self.first {
             Some((first, count)) if first == target => count,
-            _ => held_in(&self.others, target),
+            _ => self.others.held(target),
         }
     }
 }
@@ -152,47 +153,6 @@ fn is_free_for(first: Option<(ActorId, u32)>, target: ActorId) -> bool
     match first {
         Some((actor, _)) => actor == target,
         None => true,
-    }
-}
-
-/// The count of the target, 0 where the map has none.
-fn held_in(counts: &BTreeMap<ActorId, u32>, target: ActorId) -> u32
-    ensures { result ≡ count_of counts.now.entries target }
-{
-    match counts.get(&target) {
-        Some(count) => *count,
-        None => 0,
-    }
-}
-
-/// The target has so many more from now on. Where it had none yet, which is most often so, the map is searched once.
-fn add_in(counts: &mut BTreeMap<ActorId, u32>, target: ActorId, count: u32) -> Result<(), NoMemory>
-    requires { count_of counts.old.entries target + count < 2 ^ 32 }
-    ensures ok { OnOk result
-        (IsCountChange counts.old.entries counts.new.entries target (count_of counts.old.entries target + count)) }
-    ensures err { OnErr result (counts.new.entries ≡ counts.old.entries) }
-    ensures absent { OnErr result (count_of counts.old.entries target ≡ 0) }
-{
-    match counts.insert(target, count) {
-        Ok(None) => Ok(()),
-        Ok(Some(held)) => {
-            // the map has the target, so this takes no memory
-            let _ = counts.insert(target, held + count);
-            Ok(())
-        }
-        Err(_) => Err(NoMemory),
-    }
-}
-
-/// The target has this count from now on.
-fn set_in(counts: &mut BTreeMap<ActorId, u32>, target: ActorId, count: u32) -> Result<(), NoMemory>
-    ensures ok { OnOk result (IsCountChange counts.old.entries counts.new.entries target count) }
-    ensures err { OnErr result (counts.new.entries ≡ counts.old.entries) }
-    ensures absent { OnErr result (count_of counts.old.entries target ≡ 0) }
-{
-    match counts.insert(target, count) {
-        Ok(_) => Ok(()),
-        Err(_) => Err(NoMemory),
     }
 }
 
