@@ -22,10 +22,10 @@ use std::marker::Model;
 pub struct ActorState {
     busy: bool,
     root: bool,
+    stopped: bool,
     parent: Option<ActorId>,
     held: RefCounts,
     log: ActorLog,
-    stopped: bool,
 }
 
 impl Model for ActorState {
