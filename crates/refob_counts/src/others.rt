@@ -15,7 +15,7 @@ pub enum Kept {
     Several(BTreeMap<ActorId, u32>),
 }
 
-/// How many references to each of the targets after the first are held. It keeps its allocator. A single one needs no map, and most
+/// How many references to each of the targets after the first are held. It keeps its allocator. A single one needs no map, and many
 /// actors have no more. Contracts see the list of the targets and their counts.
 #[derive(Debug, Drop)]
 pub struct OtherCounts {
