@@ -4,17 +4,16 @@ ghost use Rattle.history_model.specs.declared.events.Event.{Event};
 ghost use Rattle.history_model.specs.declared.events.Event.TheVariants as events;
 ghost use Rattle.history_model.specs.Cluster.{Cluster};
 ghost use Rattle.history_model.specs.State.{is_up};
-ghost use Rattle.history_model.specs.Streams.{stream};
 ghost use Rattle.history_model.specs.Sweeps.{IsVerdict};
 ghost use Rattle.true_config.specs.Promises.{IsFoundBySweep};
+ghost use Rattle.true_config.specs.Readings.{IsSpelledAt};
 ghost use Rattle.collector.specs.declared.read.TakeFault.TheVariants as faults;
 ghost use Rattle.collector.specs.Collected.{IsSettled};
-ghost use Rattle.collector.specs.Taking.{IsOfStreams};
-ghost use Rattle.node_collectors.specs.Standing.{AreCollectorsAt, IsRead, SweepsOut};
+ghost use Rattle.node_collectors.specs.Standing.{AreCollectorsAt, SweepsOut};
 ghost use Rattle.node_collectors.specs.Wanted.{IsFirstUnhanded};
 
 use collector::{Collector, TakeFault};
-use crgc_ids::{NoMemory, NodeId, Octets};
+use crgc_ids::{NoMemory, NodeId};
 use history_model::Verdict;
 use std::alloc::Global;
 use std::marker::Model;
@@ -79,8 +78,32 @@ impl NodeCollectors {
         if self.rows[place].has_taken(origin, number) {
             return Ok(());
         }
-        let bytes = bytes_of(world, origin, number)?;
-        match self.rows[place].take(origin, number, bytes.as_slice()) {
+        match world.spelling(origin, number) {
+            Some(bytes) => self.take(world, to, origin, number, bytes.as_slice()),
+            None => {
+                let bytes = world.spell(origin, number)?;
+                self.take(world, to, origin, number, bytes.as_slice())
+            }
+        }
+    }
+
+    /// The bulletin, which is spelled so, goes to the collector of a node, as `hand` says.
+    fn take(
+        &mut self,
+        world: &World,
+        to: NodeId,
+        origin: NodeId,
+        number: u32,
+        bytes: &[u8],
+    ) -> Result<(), NoMemory>
+        requires last { slice_get world.now.past 0 ≡ Some (events.Hand to origin number) }
+        requires stand { AreCollectorsAt world.now.cluster (drop 1 world.now.past) self.old }
+        requires spelled { IsSpelledAt world.now.cluster world.now.past origin number bytes.now }
+        ensures { OnOk result (AreCollectorsAt world.now.cluster world.now.past self.new) }
+    {
+        world.is_lawful();
+        let place = to.get() as usize;
+        match self.rows[place].take(origin, number, bytes) {
             Ok(_) => Ok(()),
             Err(fault) => Err(want_of(fault)),
         }
@@ -135,18 +158,6 @@ fn sweep_out(collector: &mut Collector) -> Result<Verdict, NoMemory>
     let verdict = collector.sweep()?;
     collector.compact();
     Ok(verdict)
-}
-
-/// The bytes of the origin's bulletin of this number in the world's history. Linear time where they are kept, else in proportion to
-/// n log n for n rows.
-fn bytes_of(world: &World, origin: NodeId, number: u32) -> Result<Octets, NoMemory>
-    requires origin { origin < world.now.cluster.nodes }
-    requires number { number < length (stream world.now.cluster origin world.now.past) }
-    ensures told { IfOk result (IsOfStreams (λ o. stream world.now.cluster o world.now.past) origin number) }
-    ensures read { IfOk result (IsRead world.now.cluster.nodes origin) }
-{
-    world.is_lawful();
-    world.spell(origin, number)
 }
 
 /// The one fault for which a collector refuses what a node told.
