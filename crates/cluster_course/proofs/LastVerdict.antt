@@ -1,8 +1,7 @@
 -- The lines of the last verdict.
-use Rattle.std.proofs.Common.{◌≡◌, ◌<◌, ◌≤◌, ◌-◌, ℕ, List, [], ◌∷◌, length, take, map, get_or, reverse, slice_get, Some, sym, ◌∙◌, ap, subst, arith}
-use Rattle.std.proofs.lemmas.List.{get_or-reverse, get_or-take, length-reverse, length-take-le}
+use Rattle.std.proofs.Common.{◌≡◌, ◌≤◌, ℕ, List, [], ◌∷◌, length, take, map, slice_get, Some, refl, sym, ◌∙◌, ap, subst}
+use Rattle.std.proofs.lemmas.List.{get_or-take, length-take-le}
 use Rattle.std.proofs.lemmas.List.FromFn.{fill_by_all}
-use Rattle.std.proofs.lemmas.Option.{get_or_from_slice_get, slice_get_within, slice_get-get_or}
 use Rattle.crgc_ids.specs.Nodes.{nodes_below}
 use Rattle.history_model.specs.declared.events.Event.{Event}
 use Rattle.history_model.specs.declared.events.Event.TheVariants.{Sweep}
@@ -15,15 +14,6 @@ use Rattle.journal_model.specs.Lines.{cut_words, spell, stop_words}
 use Rattle.journal_model.specs.Report.{verdict_lines}
 use Rattle.journal_model.specs.Verdicts.{AreVerdicts}
 use Rattle.cluster_course.specs.Due.{lines_made_due, lines_of_verdict}
-
--- the last of some things is the first of them in reverse
-pub first-reversed : {X : Type 0} (xs : List X) (x : X) → slice_get xs (length xs - 1) ≡ Some x → slice_get (reverse xs) 0 ≡ Some x
-first-reversed xs x is =
-    let within = slice_get_within xs (length xs - 1) x is in
-    let some : 0 < length xs = omega (arith, within) in
-    let place : length xs - 1 - 0 ≡ length xs - 1 = omega arith in
-    slice_get-get_or (reverse xs) 0 x (omega (arith, some, length-reverse xs))
-    ∙ ap Some (get_or-reverse xs 0 x some ∙ ap (λ k. get_or xs k x) place ∙ get_or_from_slice_get xs (length xs - 1) x x is)
 
 cut-taken : (cl : Cluster) (m : ℕ) (p : List Event) (v : Verdict) → IsVerdict cl m p v → cl.nodes ≤ length v.cut → take cl.nodes v.cut ≡ map (cut_at cl m p) (nodes_below cl.nodes)
 cut-taken cl m p v is within =
@@ -47,3 +37,9 @@ last-made_due cl m (Sweep n ∷ p) (w ∷ rs) v are event verdict within =
     let same : w ≡ v = cc in
     verdict-due cl n p v (subst (IsVerdict cl n p) same are.0) within
 last-made_due cl m (_ ∷ p) rs v are event verdict within = absurd (cc)
+
+-- where the last event is no sweep, no line is due
+pub none-made_due : (cl : Cluster) (h : List Event) → ((m : ℕ) → slice_get h 0 ≡ Some (Sweep m) → ⊥) → lines_made_due cl h ≡ []
+none-made_due cl [] none = refl
+none-made_due cl (Sweep m ∷ p) none = absurd (none m refl)
+none-made_due cl (_ ∷ p) none = refl

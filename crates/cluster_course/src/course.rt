@@ -193,8 +193,8 @@ impl Course {
     }
 
     /// The first number, from 0 on, under which no bulletin of the origin was handed to the node, which is up. `NoMemory` comes
-    /// only where memory ran out at a hand or a sweep before. Logarithmic time in the number of bulletins that wait there, for
-    /// each that waits and may be folded next.
+    /// only where memory ran out at a hand or a sweep before, or the report was made. Logarithmic time in the number of bulletins
+    /// that wait there, for each that waits and may be folded next.
     pub fn wants(&self, to: NodeId, origin: NodeId) -> Result<u32, NoMemory>
         requires to { to < self.now.cluster.nodes }
         requires origin { origin < self.now.cluster.nodes }
@@ -235,7 +235,7 @@ impl Course {
         ensures { MatchOption result (lines_made_due self.now.cluster self.now.past ≡ [])
             (λ v. lines_made_due self.now.cluster self.now.past ≡ lines_of_verdict self.now.cluster.nodes v.now) }
     {
-        let Some(Event::Sweep { .. }) = self.world.history().as_slice().last() else {
+        let Some(_) = self.world.history().swept_last() else {
             return None;
         };
         let verdict = self.verdicts.last()?;
@@ -245,11 +245,14 @@ impl Course {
         Some(verdict)
     }
 
-    /// The report, in brief or in full. Linear in the events, the verdicts and the text.
-    pub fn report(&self, alloc: Global, brief: bool) -> Result<Vec<u8>, NoMemory>
-        ensures text { IfOk result (λ text. text.items ≡ report_text self.now.cluster self.now.past brief) }
-        ensures legal { IsLegal self.now.cluster self.now.past }
+    /// The report, in brief or in full. The collectors are given up for it, so that it may have their memory, and no hand or sweep
+    /// can follow it. Linear in the events, the verdicts and the text.
+    pub fn report(&mut self, alloc: Global, brief: bool) -> Result<Vec<u8>, NoMemory>
+        ensures text { IfOk result (λ text. text.items ≡ report_text self.old.cluster self.old.past brief) }
+        ensures legal { IsLegal self.old.cluster self.old.past }
+        ensures kept { self.new ≡ self.old }
     {
+        self.collectors = None;
         self.world.is_lawful();
         report(alloc, self.world.history(), self.verdicts.as_slice(), brief)
     }

@@ -24,7 +24,8 @@ const OTHER_CUT: &str =
     "crgc 1 nodes 2\nseed 1\nflush 1.0\npublish 1\nhand 1 1 0\nsweep 1\ncut 1 0 0 lost\n";
 
 fn played(alloc: Global, text: &str, brief: bool) -> Result<Vec<u8>, Fail> {
-    Ok(play(alloc, text.as_bytes(), brief).ok().ok_or("a report")?)
+    let journal = Vec::from_slice(alloc, text.as_bytes())?;
+    Ok(play(alloc, journal, brief).ok().ok_or("a report")?)
 }
 
 #[test]
@@ -40,7 +41,8 @@ fn a_crash_is_played_to_its_report(rt: HostRuntime) -> Result<(), Fail> {
 
 #[test]
 fn a_cut_that_is_not_due_differs(rt: HostRuntime) -> Result<(), Fail> {
-    let fault = play(rt.alloc(), OTHER_CUT.as_bytes(), false).err();
+    let journal = Vec::from_slice(rt.alloc(), OTHER_CUT.as_bytes())?;
+    let fault = play(rt.alloc(), journal, false).err();
     let differs = PlayFault::Journal {
         line: 7,
         cause: Cause::Differs,

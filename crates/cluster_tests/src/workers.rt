@@ -3,7 +3,7 @@ ghost use Rattle.std.specs.Prelude.{◌<◌};
 
 use crgc_ids::ActorId;
 use crgc_io::{Gate, HoldGate, QuietGate};
-use history_model::{Event, History};
+use history_model::Event;
 use script_reader::read_script;
 use script_workers::{Finished, run};
 use std::alloc::Global;
@@ -47,10 +47,10 @@ fn finished<G: Gate + Sync, R: Threads + Wait + Clock + Sync>(
 }
 
 // Where the last wake of a history stands, and where its first rest does.
-fn last_wake_and_first_rest(history: &History) -> (usize, usize) {
+fn last_wake_and_first_rest(events: &[Event]) -> (usize, usize) {
     let mut wake = 0;
-    let mut rest = history.len();
-    for (at, event) in history.as_slice().iter().enumerate() {
+    let mut rest = events.len();
+    for (at, event) in events.iter().enumerate() {
         match event {
             Event::Wake { .. } => wake = at,
             Event::Rest { .. } if at < rest => rest = at,
@@ -65,7 +65,8 @@ fn two_workers_are_in_their_turns_at_once(rt: HostRuntime) -> Result<(), Fail> {
     let gate = HoldGate::new(200_000_000);
     let Finished { report: _, history } = finished(&rt, rt.alloc(), TWO_WAKES, 2, &gate)?;
     assert!(rt; gate.met());
-    let (wake, rest) = last_wake_and_first_rest(&history);
+    let events = history.to_vec(rt.alloc())?;
+    let (wake, rest) = last_wake_and_first_rest(events.as_slice());
     assert!(rt; wake < rest);
     Ok(())
 }
@@ -87,9 +88,9 @@ impl Gate for SlowGate {
 }
 
 // Whether some actor of the history rests after some node swept.
-fn rests_after_a_sweep(history: &History) -> bool {
+fn rests_after_a_sweep(events: &[Event]) -> bool {
     let mut swept = false;
-    for event in history.as_slice() {
+    for event in events {
         match event {
             Event::Sweep { .. } => swept = true,
             Event::Rest { .. } if swept => return true,
@@ -105,7 +106,8 @@ fn nodes_tell_and_sweep_while_a_turn_goes_on(rt: HostRuntime) -> Result<(), Fail
         turns: AtomicU64::new(0),
     };
     let Finished { report: _, history } = finished(&rt, rt.alloc(), TWO_WAKES, 1, &gate)?;
-    assert!(rt; rests_after_a_sweep(&history));
+    let events = history.to_vec(rt.alloc())?;
+    assert!(rt; rests_after_a_sweep(events.as_slice()));
     Ok(())
 }
 

@@ -18,15 +18,15 @@ pub fn played<S: Source>(alloc: Global, source: &mut S, brief: bool) -> Result<V
     ensures never_falls { S.faults source.old ≤ S.faults source.new }
 {
     match input(alloc, source) {
-        Ok(journal) => report(alloc, journal.as_slice(), brief),
+        Ok(journal) => report(alloc, journal, brief),
         Err(refusal) => Err(refusal),
     }
 }
 
 /// The report of the journal, in brief or in full, or why there is none.
-fn report(alloc: Global, journal: &[u8], brief: bool) -> Result<Vec<u8>, Refusal>
-    ensures report { IfOk result (λ v. IsJournalReport journal.now brief v.items) }
-    ensures refusal { IfErr result (λ r. IsToldBy r (journal_of journal.now)) }
+fn report(alloc: Global, journal: Vec<u8>, brief: bool) -> Result<Vec<u8>, Refusal>
+    ensures report { IfOk result (λ v. IsJournalReport journal.items brief v.items) }
+    ensures refusal { IfErr result (λ r. IsToldBy r (journal_of journal.items)) }
 {
     match play(alloc, journal, brief) {
         Ok(report) => Ok(report),

@@ -8,7 +8,7 @@ ghost use Rattle.journal_model.specs.Report.{brief_of, node_words};
 ghost use Rattle.journal_model.specs.Verdicts.{AreVerdicts};
 ghost use Rattle.evidence_report.specs.Pieces.{counts_text};
 
-use crate::counts::{births_on, stopped_by_all, stopped_by_node};
+use crate::counts::{stopped_by_all, stopped_by_node};
 use crate::text::{append, append_number};
 use crgc_ids::{NoMemory, NodeId};
 use event_lines::append_header;
@@ -45,10 +45,12 @@ fn append_nodes(
         ++ text_of (map (λ n. spell (node_words history.now.cluster history.now.past n)) (nodes_below history.now.cluster.nodes))) }
     ensures born { IfOk result (λ born. born ≡ sum_by (λ n. births n history.now.past) (nodes_below history.now.cluster.nodes)) }
 {
+    // No more actors are born than there are events.
+    let _events = history.len();
     let mut born = 0;
     for n in 0..history.nodes() {
         let node = NodeId::new(n).unwrap();
-        let here = births_on(history.as_slice(), node);
+        let here = history.births(node);
         append_node(text, node, here, stopped_by_node(verdicts, node))?;
         born += here;
     }

@@ -24,13 +24,14 @@ pub fn full_report(
 {
     let mut text = Vec::new(alloc);
     append_header(history.nodes(), history.version(), &mut text)?;
-    append_events(history, verdicts, &mut text)?;
+    append_events(alloc, history, verdicts, &mut text)?;
     append_end(history.len() as u64, stopped_by_all(verdicts), &mut text)?;
     Ok(text)
 }
 
 /// Appends each event's line, and after a sweep the lines of its verdict.
 fn append_events(
+    alloc: Global,
     history: &History,
     verdicts: &[Verdict],
     text: &mut Vec<u8>,
@@ -39,8 +40,10 @@ fn append_events(
     ensures { OnOk result (text.new.items ≡ text.old.items ++ text_of (told_lines history.now.cluster history.now.past)) }
 {
     let mut rest = verdicts;
-    for event in history.as_slice() {
-        append_event(event, text)?;
+    let mut events = history.events();
+    for _ in 0..history.len() {
+        let event = events.next(alloc)?.unwrap();
+        append_event(&event, text)?;
         if let Event::Sweep { .. } = event {
             rest = append_first(history.nodes(), rest, text)?;
         }

@@ -1,5 +1,6 @@
 pub mod Basics
 pub mod Lists
+pub mod CodesLemmas
 pub mod Sums
 pub mod RisingActors
 pub mod AccountsBirths

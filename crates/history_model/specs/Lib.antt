@@ -14,6 +14,7 @@ pub mod Uses
 pub mod Settled
 pub mod Reached
 pub mod Compaction
+pub mod Codes
 pub mod Story
 pub mod Rows
 pub mod Ledgers

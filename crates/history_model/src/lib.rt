@@ -2,6 +2,7 @@
 #![tactic(auto)]
 
 pub mod bulletin_laws;
+mod codes;
 pub mod compaction;
 mod events;
 mod history;
@@ -10,5 +11,8 @@ pub mod live_laws;
 mod records;
 
 pub use events::{Event, Rule};
-pub use history::History;
+pub use history::{Events, History};
 pub use records::{Bulletin, Delta, Entry, StateRow, StateRows, Stop, StopList, Verdict, Window};
+
+#[cfg(test)]
+mod tests;

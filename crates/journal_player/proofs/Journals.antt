@@ -1,17 +1,11 @@
 -- The history that a text tells, by its header and the lines after it.
-use Rattle.std.proofs.Common.{◌≡◌, ◌≤◌, ℕ, Bool, false, if◌then◌else◌, List, ◌∷◌, length, nat_lt, Some, Option, Result, Ok, Err, refl, sym, ◌∙◌, ap, arith}
-use Rattle.std.specs.Prelude.{IfErr, IfOk}
+use Rattle.std.proofs.Common.{◌≡◌, ◌≤◌, ℕ, Bool, false, if◌then◌else◌, List, ◌∷◌, length, nat_lt, Some, Option, Result, Ok, Err, sym, ◌∙◌, ap, arith}
 use Rattle.std.proofs.lemmas.Bool.Decides.{nat_tests}
 use Rattle.crgc_ids.specs.declared.Which.TheVariants.{Input}
 use Rattle.history_model.specs.Cluster.{Cluster}
-use Rattle.history_model.specs.declared.events.Event.{Event}
-use Rattle.history_model.specs.Legal.{IsLegal}
 use Rattle.history_model.specs.Story.{Story}
 use Rattle.journal_model.specs.Journals.{Fault, Replay, after_header, after_lines, header_of, journal_lines, journal_of, limit, told_of}
 use Rattle.journal_model.specs.Lines.{lines_of}
-use Rattle.journal_model.specs.Verdicts.{report_text}
-use Rattle.cluster_course.specs.Collected.{IsRightlyCollected}
-use Rattle.run_model.specs.Schedule.{IsWithinLimits}
 use Rattle.journal_player.specs.Faults.{IsPlayFault}
 use Rattle.journal_player.specs.Following.{Following, start}
 use Rattle.journal_player.specs.declared.fault.PlayFault.{PlayFault}
@@ -60,26 +54,3 @@ fault-kept cl r NoMemory is = tt
 pub journal-faulty : (text first : List ℕ) (rest : List (List ℕ)) (from : Following) (f : PlayFault) → length text ≤ 16777216 → lines_of text ≡ first ∷ rest → IsBegun first from → IsPlayFault f (after_lines from.cluster 2 from.replay rest) → IsPlayFault f (journal_of text)
 journal-faulty text first rest from f short lines begun fault =
     rw (journal-from text first rest from short lines begun) (fault-kept from.cluster (after_lines from.cluster 2 from.replay rest) f fault)
-
--- ---- what was reported
-
-abbrev pub IsReported : Cluster → Bool → Replay → List ℕ → Type 0
-IsReported cl brief r bytes = IsLegal cl r.past × IsWithinLimits cl r.past × (bytes ≡ report_text cl r.past brief)
-
--- if all lines after the header were followed and reported, so was the text
-pub text-reported : (text first : List ℕ) (rest : List (List ℕ)) (from : Following) (brief : Bool) (bytes : List ℕ) → length text ≤ 16777216 → lines_of text ≡ first ∷ rest → IsBegun first from
-    → ((cl : Cluster) (h : List Event) → IsLegal cl h → IsRightlyCollected cl h)
-    → (r : Replay) → after_lines from.cluster 2 from.replay rest ≡ Ok r → IsReported from.cluster brief r bytes
-    → (s : Story) × (journal_of text ≡ Ok s) × IsLegal s.cluster s.past × IsWithinLimits s.cluster s.past × IsRightlyCollected s.cluster s.past × (bytes ≡ report_text s.cluster s.past brief)
-text-reported text first rest from brief bytes short lines begun law r followed told =
-    let to : Following = record { cluster = from.cluster; replay = r } in
-    (record { cluster = from.cluster; past = r.past }, journal-told text first rest from to short lines begun refl followed, told.0, told.1, law from.cluster r.past told.0, told.2)
-
--- what follows from what is so of an answer is so of it
-pub if_ok-then : {X E : Type 0} (P Q : X → Type 0) (r : Result X E) → ((x : X) → P x → Q x) → IfOk r P → IfOk r Q
-if_ok-then P Q (Ok x) follows is = follows x is
-if_ok-then P Q (Err e) follows is = tt
-
-pub if_err-then : {X E : Type 0} (P Q : E → Type 0) (r : Result X E) → ((e : E) → P e → Q e) → IfErr r P → IfErr r Q
-if_err-then P Q (Ok x) follows is = tt
-if_err-then P Q (Err e) follows is = follows e is

@@ -3,7 +3,7 @@ ghost use Rattle.std.specs.Prelude.{◌≡◌, ◌≤◌, length, Ok, IfOk, IfEr
 ghost use Rattle.history_model.specs.Legal.{IsLegal};
 ghost use Rattle.history_model.specs.Story.{Story};
 ghost use Rattle.cluster_course.specs.Collected.{IsRightlyCollected};
-ghost use Rattle.journal_model.specs.Journals.{Replay, after_lines, journal_of};
+ghost use Rattle.journal_model.specs.Journals.{after_lines, journal_of};
 ghost use Rattle.journal_model.specs.Lines.{lines_of};
 ghost use Rattle.journal_model.specs.Verdicts.{report_text};
 ghost use Rattle.journal_player.specs.Faults.{IsPlayFault};
@@ -24,10 +24,22 @@ const NO_HEADER: PlayFault = PlayFault::Journal {
 };
 
 /// The report of the history that the journal tells, in brief or in full, or why it tells none: its first faulty line with what
-/// is wrong there, or the limit that it passes. Linear in the text, beyond what the world and the collectors take for its events.
-pub fn play(alloc: Global, text: &[u8], brief: bool) -> Result<Vec<u8>, PlayFault>
-    ensures report { IfOk result (λ bytes. (s : Story) × (journal_of text.now ≡ Ok s) × IsLegal s.cluster s.past
+/// is wrong there, or the limit that it passes. The text is gone before the report is made. Linear in the text, beyond what the
+/// world and the collectors take for its events.
+pub fn play(alloc: Global, text: Vec<u8>, brief: bool) -> Result<Vec<u8>, PlayFault>
+    ensures report { IfOk result (λ bytes. (s : Story) × (journal_of text.items ≡ Ok s) × IsLegal s.cluster s.past
         × IsWithinLimits s.cluster s.past × IsRightlyCollected s.cluster s.past × (bytes.items ≡ report_text s.cluster s.past brief)) }
+    ensures fault { IfErr result (λ f. IsPlayFault f (journal_of text.items)) }
+{
+    a_legal_history_is_rightly_collected();
+    let mut player = followed(alloc, text.as_slice())?;
+    drop(text);
+    Ok(player.report(alloc, brief)?)
+}
+
+/// The player after all lines of the journal, or why it tells no history.
+fn followed(alloc: Global, text: &[u8]) -> Result<Player, PlayFault>
+    ensures told { IfOk result (λ player. journal_of text.now ≡ Ok (record { cluster = player.cluster; past = player.replay.past })) }
     ensures fault { IfErr result (λ f. IsPlayFault f (journal_of text.now)) }
 {
     if text.len() > MOST_BYTES {
@@ -39,26 +51,9 @@ pub fn play(alloc: Global, text: &[u8], brief: bool) -> Result<Vec<u8>, PlayFaul
     let Some((nodes, version)) = read_header(first) else {
         return Err(NO_HEADER);
     };
-    a_legal_history_is_rightly_collected();
     let mut player = Player::begin(alloc, nodes, version)?;
-    report_of(alloc, &mut player, rest, brief)
-}
-
-/// The report after all lines of the text, of which the first is line 2, or the first fault.
-fn report_of(
-    alloc: Global,
-    player: &mut Player,
-    text: &[u8],
-    brief: bool,
-) -> Result<Vec<u8>, PlayFault>
-    requires { length text.now ≤ MOST_BYTES }
-    ensures report { IfOk result (λ bytes. (r : Replay) × (after_lines player.old.cluster 2 player.old.replay (lines_of text.now) ≡ Ok r)
-        × IsLegal player.old.cluster r.past × IsWithinLimits player.old.cluster r.past
-        × (bytes.items ≡ report_text player.old.cluster r.past brief)) }
-    ensures fault { IfErr result (λ f. IsPlayFault f (after_lines player.old.cluster 2 player.old.replay (lines_of text.now))) }
-{
-    match follow_all(alloc, player, text) {
-        Ok(()) => Ok(player.report(alloc, brief)?),
+    match follow_all(alloc, &mut player, rest) {
+        Ok(()) => Ok(player),
         Err(fault) => Err(fault),
     }
 }

@@ -133,11 +133,12 @@ impl Player {
         Ok(())
     }
 
-    /// The report, in brief or in full. Linear in the events, the verdicts and the text.
-    pub fn report(&self, alloc: Global, brief: bool) -> Result<Vec<u8>, NoMemory>
-        ensures text { IfOk result (λ text. text.items ≡ report_text self.now.cluster self.now.replay.past brief) }
-        ensures legal { IsLegal self.now.cluster self.now.replay.past }
-        ensures within { IsWithinLimits self.now.cluster self.now.replay.past }
+    /// The report, in brief or in full, after which no hand or sweep can follow. Linear in the events, the verdicts and the text.
+    pub fn report(&mut self, alloc: Global, brief: bool) -> Result<Vec<u8>, NoMemory>
+        ensures text { IfOk result (λ text. text.items ≡ report_text self.old.cluster self.old.replay.past brief) }
+        ensures legal { IsLegal self.old.cluster self.old.replay.past }
+        ensures within { IsWithinLimits self.old.cluster self.old.replay.past }
+        ensures kept { self.new ≡ self.old }
     {
         self.course.is_lawful();
         self.course.report(alloc, brief)

@@ -126,7 +126,8 @@ fn is_in_quiet_set(
 pub fn is_quiescent(alloc: Global, history: &History, actor: ActorId) -> Result<bool, NoMemory>
     ensures { IfOk result (λ b. (b ≡ true) ↔ IsQuiescent history.now.cluster history.now.past actor) }
 {
-    match is_in_quiet_set(alloc, Constants::of(history), history.as_slice(), actor) {
+    let events = history.to_vec(alloc)?;
+    match is_in_quiet_set(alloc, Constants::of(history), events.as_slice(), actor) {
         Ok(quiescent) => Ok(quiescent),
         Err(_) => Err(NoMemory),
     }

@@ -62,12 +62,8 @@ fn is_quiet(
 pub fn is_quiet_point(alloc: Global, history: &History, node: NodeId) -> Result<bool, NoMemory>
     ensures { IfOk result (λ b. (b ≡ true) ↔ IsQuietPoint history.now.cluster node history.now.past) }
 {
-    match is_quiet(
-        alloc,
-        Constants::of(history),
-        history.as_slice(),
-        node.get(),
-    ) {
+    let events = history.to_vec(alloc)?;
+    match is_quiet(alloc, Constants::of(history), events.as_slice(), node.get()) {
         Ok(quiet) => Ok(quiet),
         Err(_) => Err(NoMemory),
     }

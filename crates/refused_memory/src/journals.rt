@@ -10,8 +10,8 @@ use std::{io, str};
 /// the course has given up its collectors, all is begun anew.
 pub fn is_played(rt: &impl Print, trial: &mut Trial, report: &str) -> io::Result<bool> {
     for _ in 0..2 {
-        if let Some(course) = play(rt, trial, report)? {
-            let found = report_of(trial, &course)?;
+        if let Some(mut course) = play(rt, trial, report)? {
+            let found = report_of(trial, &mut course)?;
             let verdicts = verdicts_of(rt, trial, course.world(), report)?;
             return Ok(
                 is_text(found.as_slice(), report) && are_verdicts(verdicts.as_slice(), report),

@@ -67,7 +67,7 @@ pub fn course_of(trial: &mut Trial, journal: &str) -> io::Result<Course> {
 }
 
 /// The report of the history.
-pub fn report_of(trial: &mut Trial, course: &Course) -> io::Result<Vec<u8>> {
+pub fn report_of(trial: &mut Trial, course: &mut Course) -> io::Result<Vec<u8>> {
     if let Ok(report) = course.report(trial.alloc, false) {
         return Ok(report);
     }

@@ -36,9 +36,8 @@ pub fn draw_wanted(text: &mut String, course: &Course) -> Result<(), AllocError>
 
 /// What the world shows: its history first.
 pub fn draw_world(text: &mut String, world: &World) -> Result<(), AllocError> {
-    for event in world.history().as_slice() {
-        writeln!(text, "{event:?}")?;
-    }
+    let history = world.history();
+    writeln!(text, "{history:?}")?;
     let version = world.version();
     let live = world.live_count();
     let busy = world.busy_count();

@@ -1,6 +1,7 @@
 -- How a history that is made anew, event by event, goes on to its closing round.
-use Rattle.std.proofs.Common.{◌≡◌, ◌<◌, ◌++◌, Bool, true, List, [], ◌∷◌, append_assoc, append-nil, arith, drop, length, slice_get, Option, Some, None, sym, ◌∙◌, ap, subst, inl, inr}
+use Rattle.std.proofs.Common.{◌≡◌, ◌<◌, ◌++◌, Bool, true, List, [], ◌∷◌, append_assoc, append-nil, arith, drop, length, reverse, slice_get, Option, Some, None, sym, ◌∙◌, ap, subst, inl, inr}
 use Rattle.std.specs.Prelude.{IfErr, Result, Ok, Err}
+use Rattle.std.proofs.lemmas.List.{reverse-append}
 use Rattle.std.proofs.lemmas.Option.{none-some, same_Some}
 use Rattle.crgc_ids.specs.declared.Which.{Which}
 use Rattle.history_model.specs.declared.events.Event.{Event}
@@ -60,21 +61,20 @@ next-of cl q e p h way legal within few = record {
 pub next-on : (s w : Story) (q : List Event) (e : Event) → s.cluster ≡ w.cluster → q ++ e ∷ s.past ≡ w.past → IsLegal w.cluster w.past → IsWithinLimits w.cluster w.past → CarryFew w.past → IsNextOf s.cluster e s.past
 next-on s w q e same way legal within few = subst (λ c. IsNextOf c e s.past) (sym same) (next-of w.cluster q e s.past w.past way legal within few)
 
--- the last event goes from the history to the list, and later from the list to the course
-pub taken-back : (items past whole : List Event) (e : Event) → Some e ≡ slice_get past 0 → items ++ past ≡ whole → (items ++ e ∷ []) ++ drop 1 past ≡ whole
-taken-back items [] whole e is way = absurd (none-some e (sym is))
-taken-back items (x ∷ past) whole e is way = append_assoc items (e ∷ []) past ∙ ap (λ y. items ++ y ∷ past) (same_Some e x is) ∙ way
+-- the first of the events that are left goes to the course
+pub given-on : (left past whole : List Event) (e : Event) → Some e ≡ slice_get left 0 → reverse left ++ past ≡ whole → reverse (drop 1 left) ++ e ∷ past ≡ whole
+given-on [] past whole e is way = absurd (none-some e (sym is))
+given-on (x ∷ left) past whole e is way =
+    ap (λ y. reverse left ++ y ∷ past) (same_Some e x is)
+    ∙ sym (ap (λ l. l ++ past) (reverse-append (x ∷ []) left) ∙ append_assoc (reverse left) (x ∷ []) past) ∙ way
 
-pub taken-all : (items past whole : List Event) → None ≡ slice_get past 0 → items ++ past ≡ whole → items ≡ whole
-taken-all items [] whole is way = sym (append-nil items) ∙ way
-taken-all items (x ∷ past) whole is way = absurd (none-some x is)
+pub given-all : (left past whole : List Event) → None ≡ slice_get left 0 → reverse left ++ past ≡ whole → past ≡ whole
+given-all [] past whole is way = way
+given-all (x ∷ left) past whole is way = absurd (none-some x is)
 
-pub fewer-left : (past : List Event) (e : Event) → Some e ≡ slice_get past 0 → length (drop 1 past) < length past
+pub fewer-left : (left : List Event) (e : Event) → Some e ≡ slice_get left 0 → length (drop 1 left) < length left
 fewer-left [] e is = absurd (none-some e (sym is))
-fewer-left (x ∷ past) e is = omega arith
-
-pub given-on : (items rest past whole : List Event) (e : Event) → items ≡ rest ++ e ∷ [] → items ++ past ≡ whole → rest ++ e ∷ past ≡ whole
-given-on items rest past whole e is way = sym (append_assoc rest (e ∷ []) past) ∙ ap (λ l. l ++ past) (sym is) ∙ way
+fewer-left (x ∷ left) e is = omega arith
 
 -- ---- the limit at which the round stops
 

@@ -71,6 +71,7 @@ fn close(alloc: Global, mut course: Course, brief: bool) -> Result<Finished, Wor
         }
         Err(RoundHalt::NoMemory) => return Err(WorkersFault::NoMemory),
     }
+    course.is_lawful();
     match course.report(alloc, brief) {
         Ok(report) => {
             let history = course.into_history();
@@ -88,8 +89,8 @@ fn course_of(alloc: Global, history: History) -> Result<Course, NoMemory>
     ensures { IfOk result (λ c. c ≡ history) }
 {
     let mut course = Course::begin(alloc, history.nodes(), history.version())?;
-    let mut events = newest_first(alloc, history)?;
-    while let Some(event) = events.pop() {
+    let mut events = history.events();
+    while let Some(event) = events.next(alloc)? {
         follow_next(&mut course, event)?;
     }
     Ok(course)
@@ -108,17 +109,4 @@ fn follow_next(course: &mut Course, event: Event) -> Result<(), NoMemory>
         Err(Halt::Limit(_)) => unreachable!(),
         Err(Halt::NoMemory) => Err(NoMemory),
     }
-}
-
-/// The events of a history, the newest first.
-fn newest_first(alloc: Global, mut history: History) -> Result<Vec<Event>, NoMemory>
-    ensures { IfOk result (λ events. events.items ≡ history.past) }
-{
-    let mut events = Vec::new(alloc);
-    while let Some(event) = history.take_back() {
-        if events.push(event).is_err() {
-            return Err(NoMemory);
-        }
-    }
-    Ok(events)
 }

@@ -8,7 +8,7 @@ ghost use Rattle.true_config.specs.Steps.{Adds, MayFollow};
 
 use crate::World;
 use crgc_ids::{ActorId, NoMemory, NodeId, RefList};
-use history_model::{Event, History};
+use history_model::Event;
 use roster::Roster;
 
 impl World {
@@ -31,7 +31,7 @@ impl World {
         let Ok(carried) = refs.copy() else {
             return Err(NoMemory);
         };
-        let Ok(()) = push_send(&mut self.history, from, to, refs) else {
+        let Ok(()) = self.history.push_send(from, to, refs) else {
             return Err(NoMemory);
         };
         let idle = !self.roster.is_busy(to);
@@ -78,22 +78,6 @@ fn is_idle(roster: &Roster, actor: Option<ActorId>) -> bool
         Some(actor) => !roster.is_busy(actor),
         None => false,
     }
-}
-
-/// The send becomes the last event of the history. After `NoMemory` that is as before.
-fn push_send(
-    history: &mut History,
-    from: ActorId,
-    to: ActorId,
-    refs: &RefList,
-) -> Result<(), NoMemory>
-    ensures ok { OnOk result (Adds (events.Send from to refs.now) history.old history.new) }
-    ensures err { OnErr result (history.new ≡ history.old) }
-{
-    let Ok(refs) = refs.copy() else {
-        return Err(NoMemory);
-    };
-    history.push(Event::Send { from, to, refs })
 }
 
 /// Reads each reference, since what was read is known to be in its range.

@@ -55,7 +55,8 @@ fn follow_all<R: Print + Threads + Sync>(
 ) -> io::Result<()>
     requires { AreSettled collectors.old }
 {
-    for (place, event) in world.history().as_slice().iter().enumerate() {
+    let events = made(world.history().to_vec(alloc))?;
+    for (place, event) in events.as_slice().iter().enumerate() {
         follow(rt, alloc, world, collectors, place, event, found)?;
     }
     Ok(())

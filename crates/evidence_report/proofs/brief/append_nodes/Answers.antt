@@ -15,23 +15,22 @@ pub stopped_by_node-requires : goal.stopped_by_node-requires
 stopped_by_node-requires c =
     let h = c.args.history.now in
     let fits = node-fits h.cluster c.unwrap-node.result h.past c.args.verdicts.now c.requires.legal c.requires.verdicts in
-    let here = c.births_on-here.ensures.value ∙ ap (λ x. births c.unwrap-node.result x) (sym c.as_slice.ensures) in
+    let here = c.births-here.ensures.value in
     omega (arith, fits, here)
 
 pub overflow_add-born : goal.overflow_add-born
 overflow_add-born c =
     let h = c.args.history.now in
-    let here = c.births_on-here.ensures.value ∙ ap (λ x. births c.unwrap-node.result x) (sym c.as_slice.ensures) ∙ ap (λ n. births n h.past) (made-same c.new.result c.unwrap-node.result c.loop-n.n c.unwrap-node.ensures c.new.ensures.some) in
+    let here = c.births-here.ensures.value ∙ ap (λ n. births n h.past) (made-same c.new.result c.unwrap-node.result c.loop-n.n c.unwrap-node.ensures c.new.ensures.some) in
     let sum = sum-more (λ n. births n h.past) c.loop-n.n in
     let all = births-within h.past (c.loop-n.n + 1) in
-    let events = ap length c.as_slice.ensures ∙ length-reverse c.as_slice.result.now in
-    omega (arith, c.loop-n.invariant.born, here, sum, all, events)
+    omega (arith, c.loop-n.invariant.born, here, sum, all, c.len-events.ensures, c.len-events.type_inv)
 
 pub loop-n-preserved : goal.loop-n-preserved
 loop-n-preserved c =
     let h = c.args.history.now in
     let node : c.unwrap-node.result ≡ c.loop-n.n = made-same c.new.result c.unwrap-node.result c.loop-n.n c.unwrap-node.ensures c.new.ensures.some in
-    let here = c.births_on-here.ensures.value ∙ ap (λ x. births c.unwrap-node.result x) (sym c.as_slice.ensures) in
+    let here = c.births-here.ensures.value in
     let gone = c.stopped_by_node.ensures ∙ node-stopped h.cluster c.unwrap-node.result h.past c.args.verdicts.now c.requires.verdicts in
     let words : ℕ → ℕ → ℕ → List (List ℕ) = λ n b s. codes "node" ∷ decimal n ∷ codes "born" ∷ decimal b ∷ codes "stopped" ∷ decimal s ∷ [] in
     let line : c.append_node.new.text.items ≡ c.loop-n.text.items ++ line_of (spell (node_words h.cluster h.past c.loop-n.n)) =
@@ -42,5 +41,5 @@ loop-n-preserved c =
     let count = here ∙ ap (λ n. births n h.past) node in
     record {
       lines = nodes-written (λ n. spell (node_words h.cluster h.past n)) c.loop-n.n c.args.text.now.items c.loop-n.text.items c.append_node.new.text.items c.loop-n.invariant.lines line;
-      born = ap (λ b. b + c.births_on-here.result) c.loop-n.invariant.born ∙ ap (λ b. sum_by (λ n. births n h.past) (nodes_below c.loop-n.n) + b) count ∙ sym sum;
+      born = ap (λ b. b + c.births-here.result) c.loop-n.invariant.born ∙ ap (λ b. sum_by (λ n. births n h.past) (nodes_below c.loop-n.n) + b) count ∙ sym sum;
     }

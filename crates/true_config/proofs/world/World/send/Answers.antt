@@ -3,7 +3,7 @@ use Rattle.history_model.specs.declared.events.Event.TheVariants.{Send}
 use Rattle.journal_model.specs.Lines.{AreActors}
 use Rattle.roster.specs.Table.{state_at}
 use Rattle.roster.proofs.SendLemmas.{sends-noted}
-use Rattle.true_config.specs.Steps.{MayFollow}
+use Rattle.true_config.specs.Steps.{Adds, MayFollow}
 use Rattle.true_config.proofs.Bounds.{actor-has_room}
 use Rattle.true_config.proofs.Growing.{taken-back}
 use Rattle.true_config.proofs.MailEvents.{grows-sent, live-fits, sender-here, sent-fits, stays-unsent}
@@ -33,9 +33,10 @@ invariant_of-self-in-Ok-send-2 c =
     let e = Send c.args.from c.args.to c.args.refs.now in
     let r = c.self.inside.roster in
     let are = subst AreActors c.as_slice.ensures c.read_actors.ensures in
+    let added : Adds e c.self.inside.history c.push_send.new.self = record { cluster = c.in-Ok-push_send.ensures.cluster; past = c.in-Ok-push_send.ensures.ok } in
     let idle : not c.is_busy-idle.result ≡ not (state_at r c.args.to).busy = ap not c.is_busy-idle.ensures in
-    grows-sent c.self.inside.history c.push_send.new.history c.self.inside.traffic c.send-2.new.self r c.send.new.self c.self.inside.streams c.args.from c.args.to c.args.refs.now c.as_slice-2.result.now c.in-Ok.carried _
-    c.in-Ok-push_send.ensures.ok (subst (MayFollow e) (sym c.self.view_is) c.requires.may) ((search rules, search rules), (search rules, search rules), are, c.requires.few) c.self.invariant
+    grows-sent c.self.inside.history c.push_send.new.self c.self.inside.traffic c.send-2.new.self r c.send.new.self c.self.inside.streams c.args.from c.args.to c.args.refs.now c.as_slice-2.result.now c.in-Ok.carried _
+    added (subst (MayFollow e) (sym c.self.view_is) c.requires.may) ((search rules, search rules), (search rules, search rules), are, c.requires.few) c.self.invariant
     c.as_slice-2.ensures c.in-Ok.ensures idle c.in-Ok-send.ensures.ok c.in-Ok-send-2.ensures.kept
 
 pub take_back_send-requires-clause-here : goal.take_back_send-requires-clause-here
@@ -56,7 +57,9 @@ take_back_send-requires-clause-sent c =
 pub invariant_of-self-in_default-send-2 : goal.invariant_of-self-in_default-send-2
 invariant_of-self-in_default-send-2 c =
     let back = c.take_back-in_default-send-2.ensures in
-    let same = taken-back (Send c.args.from c.args.to c.args.refs.now) c.self.inside.history c.push_send.new.history c.take_back-in_default-send-2.new.self c.in-Ok-push_send.ensures.ok back.cluster back.past in
+    let e = Send c.args.from c.args.to c.args.refs.now in
+    let added : Adds e c.self.inside.history c.push_send.new.self = record { cluster = c.in-Ok-push_send.ensures.cluster; past = c.in-Ok-push_send.ensures.ok } in
+    let same = taken-back e c.self.inside.history c.push_send.new.self c.take_back-in_default-send-2.new.self added back.cluster back.past in
     let long = c.len.ensures ∙ ap length (sym c.as_slice-2.ensures) in
     stays-unsent c.self.inside.history c.take_back-in_default-send-2.new.self c.self.inside.traffic c.send-2.new.self c.self.inside.roster c.send.new.self c.take_back_send.new.self c.self.inside.streams c.args.from c.args.to c.as_slice-2.result.now c.len.result
     same c.self.invariant c.in_default-send-2.ensures.err c.in-Ok-send.ensures.ok long c.take_back_send.ensures
