@@ -96,18 +96,17 @@ fn counts_change_and_growth_is_cut_back(rt: HostRuntime) -> Result<(), Fail> {
     assert_eq!(rt; table.place_count(), 0);
     table.add_place()?;
     let number = add(&mut table, 0, 0)?;
-    if number < table.edge_count() && table.edge(number).given == 0 {
+    if number < table.edge_count() && table.edge(number).count == 0 {
         table.give(number, 3);
     }
-    if number < table.edge_count() && table.edge(number).given >= 1 {
-        table.take_back(number, 1);
+    if number < table.edge_count() && table.edge(number).count == 3 {
+        table.release(number, 1);
     }
-    if number < table.edge_count() && table.edge(number).released == 0 {
+    if number < table.edge_count() && table.edge(number).count == 2 {
         table.release(number, 4);
     }
     if number < table.edge_count() {
-        let edge = table.edge(number);
-        assert_eq!(rt; (edge.given, edge.released), (2, 4));
+        assert_eq!(rt; table.edge(number).count, -2);
         table.remove_last_edge();
     }
     assert_eq!(rt; (table.edge_count(), table.place_count()), (0, 1));
@@ -130,14 +129,14 @@ fn first_to_each(table: &mut EdgeTable, places: u32) -> Result<(), Fail>
 
 /// One reference is given along the edge.
 fn give_one(table: &mut EdgeTable, number: u32) {
-    if number < table.edge_count() && table.edge(number).given == 0 {
+    if number < table.edge_count() && table.edge(number).count == 0 {
         table.give(number, 1);
     }
 }
 
 /// One reference is released along the edge.
 fn release_one(table: &mut EdgeTable, number: u32) {
-    if number < table.edge_count() && table.edge(number).released == 0 {
+    if number < table.edge_count() && table.edge(number).count == 1 {
         table.release(number, 1);
     }
 }

@@ -1,22 +1,20 @@
--- That each edge is found: it is listed near, or the map has its number.
-use Rattle.std.proofs.Common.{◌≡◌, ◌⊎◌, ◌<◌, ◌≤◌, ◌↔◌, ℕ, zero, suc, Bool, true, false, cond, List, [], ◌∷◌, ◌++◌, Option, Some, None, eqb, eq-eqb, get_or, length, map, position, take, drop, refl, sym, ◌∙◌, ap, subst, inl, inr, arith}
+-- That each edge is found: it is listed near, or far.
+use Rattle.std.proofs.Common.{◌≡◌, ◌⊎◌, ◌<◌, ◌≤◌, ◌↔◌, ℕ, zero, suc, Bool, true, false, cond, List, [], ◌∷◌, ◌++◌, Option, Some, None, eqb, eq-eqb, get_or, length, map, take, refl, sym, ◌∙◌, ap, subst, inl, inr, arith}
 use Rattle.std.proofs.Math.Seq.{get_or-append_seam}
 use Rattle.std.proofs.lemmas.Bool.{cases_lt, false≢true}
-use Rattle.std.proofs.lemmas.List.{get_or_append_left, get_or_default, take-append-drop}
-use Rattle.std.proofs.lemmas.List.Quantifiers.{position-Some}
+use Rattle.std.proofs.lemmas.List.{get_or_append_left, get_or_default, length-append, length-map}
 use Rattle.std.proofs.lemmas.Option.{none-some}
 use Rattle.std.specs.Bool.{Decides}
 use Rattle.std.specs.Option.{IfNone, IfSome}
-use Rattle.crgc_ids.specs.Actor.{Actor}
 use Rattle.crgc_ids.specs.Members.{IsAmong}
-use Rattle.edge_table.proofs.IndexLemmas.{position-more, position-pushed}
+use Rattle.edge_table.proofs.FarLemmas.{added-alone, added-kept, added-put, removed-alone, removed-kept}
 use Rattle.edge_table.proofs.EndsLemmas.{among-first, ends-listed, ends-long, ends_at, numbers-of-ends}
 use Rattle.edge_table.proofs.ListedLemmas.{end_at, listed, longer}
 use Rattle.edge_table.proofs.TableLemmas.{owner_of, target_of}
 use Rattle.edge_table.specs.Ends.{PlaceEnds, no_ends, numbers_of}
-use Rattle.edge_table.specs.Index.{AreFound, Indexed, IsNear, mapped}
+use Rattle.edge_table.specs.Far.{AreFound, Entries, IsFar, IsFarAdded, IsFarRemoved, IsNear, far_number}
 use Rattle.edge_table.specs.Partition.{numbers_in}
-use Rattle.edge_table.specs.Table.{edges_from, edges_to, ends_from, ends_to, no_edge, same_pair}
+use Rattle.edge_table.specs.Table.{IsBetween, edges_from, edges_to, ends_from, ends_to, no_edge}
 use Rattle.edge_table.specs.declared.near.TheConstants.{NEAR}
 use Rattle.edge_table.specs.declared.table.Edge.{Edge}
 
@@ -82,71 +80,141 @@ module _ (end : Edge → ℕ) (none : end no_edge ≡ 0) where
       subst (λ x. IsAmong n (take NEAR (numbers_of (end x) 0 (map end (edges ++ e ∷ []))))) (sym same)
       (subst (λ xs. IsAmong n (take NEAR xs)) (sym is) (first-last n NEAR (numbers_of (end e) 0 (map end edges)) few))
 
+  -- an edge keeps its end
+  end-same : (edges edges' : List Edge) → map end edges' ≡ map end edges → (n : ℕ) → end (get_or edges' n no_edge) ≡ end (get_or edges n no_edge)
+  end-same edges edges' ends n = sym (end_at end none edges' n) ∙ ap (λ l. get_or l n 0) ends ∙ end_at end none edges n
+
   near-same : (edges edges' : List Edge) (n : ℕ) → map end edges' ≡ map end edges → NearAt edges n → NearAt edges' n
   near-same edges edges' n ends near =
-      let at = sym (end_at end none edges' n) ∙ ap (λ l. get_or l n 0) ends ∙ end_at end none edges n in
+      let at = end-same edges edges' ends n in
       subst (λ p. IsAmong n (take NEAR (numbers_of p 0 (map end edges')))) (sym at)
       (subst (λ l. IsAmong n (take NEAR (numbers_of (end (get_or edges n no_edge)) 0 l))) (sym ends) near)
 
 -- ---- each edge is found
 
--- the last edge is listed near or put into the map
-pub last-found : (edges : List Edge) (e : Edge) (new : Indexed) (p : Actor × Actor) (k : ℕ) (b : Bool) (froms tos : List (ℕ × ℕ)) → froms ≡ ends_from edges e.owner → tos ≡ ends_to edges e.target → Decides b ((NEAR ≤ length froms) × (NEAR ≤ length tos)) → (b ≡ true → mapped new p ≡ Some k) → IsNear (edges ++ e ∷ []) (length edges) ⊎ (mapped new p ≡ Some k)
-last-found edges e new p k true froms tos from to full has = inr (has refl)
-last-found edges e new p k false froms tos from to full has =
+-- where there is no edge
+pub found_none : (entries : Entries) (edges : List Edge) → entries ≡ [] → edges ≡ [] → AreFound entries edges
+found_none entries edges no_entry no_edge = subst (λ es. AreFound es edges) (sym no_entry) (subst (AreFound []) (sym no_edge) (record { right = λ p q n e. absurd (none-some n e); found = λ n inside. absurd (omega arith) }))
+
+-- the last edge is listed near, unless both of its lists were full before it
+pub last-near : (edges : List Edge) (e : Edge) (b : Bool) (froms tos : List (ℕ × ℕ)) → froms ≡ ends_from edges e.owner → tos ≡ ends_to edges e.target → Decides b ((NEAR ≤ length froms) × (NEAR ≤ length tos)) → b ≡ false → IsNear (edges ++ e ∷ []) (length edges)
+last-near edges e b froms tos from to full not_full =
     elim (cases_lt (length froms) NEAR) [
-      | inl few ↦ inl (inl (near-last owner_of refl edges e (subst (λ n. n < NEAR) (ap length from ∙ ends-long target_of edges (edges_from edges e.owner)) few)))
+      | inl few ↦ inl (near-last owner_of refl edges e (subst (λ n. n < NEAR) (ap length from ∙ ends-long target_of edges (edges_from edges e.owner)) few))
       | inr many ↦ elim (cases_lt (length tos) NEAR) [
-        | inl few ↦ inl (inr (near-last target_of refl edges e (subst (λ n. n < NEAR) (ap length to ∙ ends-long owner_of edges (edges_to edges e.target)) few)))
-        | inr more ↦ absurd (false≢true (full.1 (many, more)))
+        | inl few ↦ inr (near-last target_of refl edges e (subst (λ n. n < NEAR) (ap length to ∙ ends-long owner_of edges (edges_to edges e.target)) few))
+        | inr more ↦ absurd (false≢true (sym not_full ∙ full.1 (many, more)))
       ]
     ]
 
--- an edge comes last, and is listed near or put into the map
-pub found-added : (p : Actor × Actor) (old new : Indexed) (edges : List Edge) (e : Edge) → new.pairs ≡ old.pairs ++ p ∷ [] → length edges ≡ length old.pairs → position (same_pair p) old.pairs ≡ None → AreFound old edges → ((q : Actor × Actor) (n : ℕ) → position (same_pair q) old.pairs ≡ Some n → mapped new q ≡ mapped old q) → IsNear (edges ++ e ∷ []) (length edges) ⊎ (mapped new p ≡ Some (length old.pairs)) → AreFound new (edges ++ e ∷ [])
-found-added p old new edges e pairs long new_pair found kept last = λ q n there.
-    let at : position (same_pair q) (old.pairs ++ p ∷ []) ≡ Some n = ap (position (same_pair q)) (sym pairs) ∙ there in
-    elim (position-pushed q p old.pairs n at) [
-      | inl before ↦ (
-          let inside : n < length edges = (let h = (position-Some (same_pair q) old.pairs n q before).0 in omega arith) in
-          elim (found q n before) [
-            | inl near ↦ inl (elim near [
-              | inl from ↦ inl (near-longer owner_of refl edges e n inside from)
-              | inr to ↦ inr (near-longer target_of refl edges e n inside to)
-            ])
-            | inr has ↦ inr (kept q n before ∙ has)
-          ]
-          )
-      | inr is_last ↦ elim last [
-        | inl near ↦ inl (subst (IsNear (edges ++ e ∷ [])) (long ∙ is_last.1) near)
-        | inr has ↦ inr (ap (mapped new) is_last.0 ∙ has ∙ ap Some is_last.1)
+-- an edge comes last, and is listed near where it is not far
+module _ (old new : Entries) (edges : List Edge) (e : Edge) (is_far : Bool) (added : IsFarAdded old new e.owner e.target (length edges) is_far) (near : is_far ≡ false → IsNear (edges ++ e ∷ []) (length edges)) (found : AreFound old edges) where
+  -- the map has numbers of edges between the places
+  right-added : (p q n : ℕ) → far_number new p q ≡ Some n → IsBetween (edges ++ e ∷ []) n p q
+  right-added p q n has =
+      let long = length-append edges (e ∷ []) in
+      elim (added-alone old new e.owner e.target (length edges) is_far added p q n has) [
+        | inl was ↦ (
+            let is = found.right p q n was in
+            let inside = is.0 in
+            subst (λ x. (n < length (edges ++ e ∷ [])) × (x.owner ≡ p) × (x.target ≡ q)) (sym (get_or_append_left edges (e ∷ []) no_edge n inside)) (omega arith, is.1, is.2)
+            )
+        | inr last ↦ (
+            let at = last.2 in
+            subst (λ x. (n < length (edges ++ e ∷ [])) × (x.owner ≡ p) × (x.target ≡ q)) (sym (ap (λ k. get_or (edges ++ e ∷ []) k no_edge) at ∙ get_or-append_seam edges e [] no_edge)) (omega arith, sym last.0, sym last.1)
+            )
       ]
-    ]
+
+  -- the new edge is found
+  last-found : IsNear (edges ++ e ∷ []) (length edges) ⊎ IsFar new (edges ++ e ∷ []) (length edges)
+  last-found = elim is_far as (λ b. is_far ≡ b → IsNear (edges ++ e ∷ []) (length edges) ⊎ IsFar new (edges ++ e ∷ []) (length edges)) [
+    | true ↦ λ far. (
+        let put = added-put old new e.owner e.target (length edges) is_far added far in
+        let inside = (right-added e.owner e.target put.0 put.1).0 in
+        let long = length-append edges (e ∷ []) in
+        inr (put.0, subst (λ x. far_number new x.owner x.target ≡ Some put.0) (sym (get_or-append_seam edges e [] no_edge)) put.1, omega arith)
+        )
+    | false ↦ λ not_far. inl (near not_far)
+  ] refl
+
+  -- and each other one still is
+  pub found-added : AreFound new (edges ++ e ∷ [])
+  found-added = record {
+    right = right-added;
+    found = λ n inside. elim (cases_lt n (length edges)) [
+      | inl less ↦ elim (found.found n less) [
+        | inl was ↦ inl (elim was [
+          | inl from ↦ inl (near-longer owner_of refl edges e n less from)
+          | inr to ↦ inr (near-longer target_of refl edges e n less to)
+        ])
+        | inr far ↦ (
+            let edge = get_or edges n no_edge in
+            let kept = added-kept old new e.owner e.target (length edges) is_far added edge.owner edge.target far.0 far.1 in
+            inr (far.0, subst (λ x. far_number new x.owner x.target ≡ Some far.0) (sym (get_or_append_left edges (e ∷ []) no_edge n less)) kept, far.2)
+            )
+      ]
+      | inr past ↦ (
+          let long = length-append edges (e ∷ []) in
+          let is : length edges ≡ n = omega arith in
+          subst (λ k. IsNear (edges ++ e ∷ []) k ⊎ IsFar new (edges ++ e ∷ []) k) is last-found
+          )
+    ];
+  }
 
 -- the last edge is taken away
-pub found-removed : (old new : Indexed) (edges all : List Edge) (e : Edge) (k : ℕ) → new.pairs ≡ take k old.pairs → all ≡ edges ++ e ∷ [] → length new.pairs ≡ length edges → AreFound old all → ((q : Actor × Actor) (n : ℕ) → position (same_pair q) new.pairs ≡ Some n → mapped new q ≡ mapped old q) → AreFound new edges
-found-removed old new edges all e k pairs is long found kept = λ q n there.
-    let parts : old.pairs ≡ new.pairs ++ drop k old.pairs = sym (take-append-drop k old.pairs) ∙ ap (λ ps. ps ++ drop k old.pairs) (sym pairs) in
-    let was : position (same_pair q) old.pairs ≡ Some n = ap (position (same_pair q)) parts ∙ position-more (same_pair q) new.pairs (drop k old.pairs) n there in
-    let inside : n < length edges = (let h = (position-Some (same_pair q) new.pairs n q there).0 in omega arith) in
-    elim (found q n was) [
-      | inl near ↦ inl (elim (subst (λ es. IsNear es n) is near) [
-        | inl from ↦ inl (near-shorter owner_of refl edges e n inside from)
-        | inr to ↦ inr (near-shorter target_of refl edges e n inside to)
-      ])
-      | inr has ↦ inr (kept q n there ∙ has)
-    ]
+pub found-removed : (old new : Entries) (edges all : List Edge) (e : Edge) → all ≡ edges ++ e ∷ [] → IsFarRemoved old new e.owner e.target (length edges) → AreFound old all → AreFound new edges
+found-removed old new edges all e is removed before =
+    let found : AreFound old (edges ++ e ∷ []) = subst (AreFound old) is before in
+    let long = length-append edges (e ∷ []) in
+    record {
+      right = λ p q n has. (
+          let was = removed-alone old new e.owner e.target (length edges) removed p q n has in
+          let between = found.right p q n was.0 in
+          let inside = between.0 in
+          elim (cases_lt n (length edges)) [
+            | inl less ↦ subst (λ x. (n < length edges) × (x.owner ≡ p) × (x.target ≡ q)) (get_or_append_left edges (e ∷ []) no_edge n less) (less, between.1, between.2)
+            | inr past ↦ (
+                let last : n ≡ length edges = omega arith in
+                let edge : get_or (edges ++ e ∷ []) n no_edge ≡ e = ap (λ k. get_or (edges ++ e ∷ []) k no_edge) last ∙ get_or-append_seam edges e [] no_edge in
+                absurd (was.1 (sym between.1 ∙ ap owner_of edge) (sym between.2 ∙ ap target_of edge) last)
+                )
+          ]
+          );
+      found = λ n inside. (
+          let same = get_or_append_left edges (e ∷ []) no_edge n inside in
+          elim (found.found n (omega arith)) [
+            | inl was ↦ inl (elim was [
+              | inl from ↦ inl (near-shorter owner_of refl edges e n inside from)
+              | inr to ↦ inr (near-shorter target_of refl edges e n inside to)
+            ])
+            | inr far ↦ (
+                let less = far.2 in
+                let has = subst (λ x. far_number old x.owner x.target ≡ Some far.0) same far.1 in
+                let edge = get_or edges n no_edge in
+                inr (far.0, removed-kept old new e.owner e.target (length edges) removed edge.owner edge.target far.0 has (λ last. absurd (omega arith)), far.2)
+                )
+          ]
+          );
+    }
 
 -- an edge keeps its ends
-pub found-changed : (index : Indexed) (edges edges' : List Edge) → map owner_of edges' ≡ map owner_of edges → map target_of edges' ≡ map target_of edges → AreFound index edges → AreFound index edges'
-found-changed index edges edges' owners targets found = λ q n there.
-    elim (found q n there) [
-      | inl near ↦ inl (elim near [
-        | inl from ↦ inl (near-same owner_of refl edges edges' n owners from)
-        | inr to ↦ inr (near-same target_of refl edges edges' n targets to)
-      ])
-      | inr has ↦ inr has
-    ]
+pub found-changed : (entries : Entries) (edges edges' : List Edge) → map owner_of edges' ≡ map owner_of edges → map target_of edges' ≡ map target_of edges → AreFound entries edges → AreFound entries edges'
+found-changed entries edges edges' owners targets found =
+    let long : length edges' ≡ length edges = sym (length-map edges' owner_of) ∙ ap length owners ∙ length-map edges owner_of in
+    record {
+      right = λ p q n has. (
+          let is = found.right p q n has in
+          let inside = is.0 in
+          (omega arith, end-same owner_of refl edges edges' owners n ∙ is.1, end-same target_of refl edges edges' targets n ∙ is.2)
+          );
+      found = λ n inside. elim (found.found n (omega arith)) [
+        | inl near ↦ inl (elim near [
+          | inl from ↦ inl (near-same owner_of refl edges edges' n owners from)
+          | inr to ↦ inr (near-same target_of refl edges edges' n targets to)
+        ])
+        | inr far ↦ inr (far.0, (λ i. far_number entries (end-same owner_of refl edges edges' owners n i) (end-same target_of refl edges edges' targets n i)) ∙ far.1, far.2)
+      ];
+    }
 
 -- ---- a look-up
 
@@ -196,6 +264,11 @@ pub map_is_right : (o m : Option ℕ) → IfSome m (λ n. o ≡ Some n) → ((n 
 map_is_right None None right has = refl
 map_is_right None (Some n) right has = absurd (none-some n right)
 map_is_right (Some n) m right has = has n refl
+
+-- what is so of each number that a look-up can find
+pub some_told : (o m : Option ℕ) (P : ℕ → Type 0) → m ≡ o → ((n : ℕ) → o ≡ Some n → P n) → IfSome m P
+some_told o None P is told = tt
+some_told o (Some n) P is told = told n (sym is)
 
 -- what holds of a number found
 pub all_some : (o : Option ℕ) (P Q : ℕ → Type 0) → ((n : ℕ) → P n → Q n) → IfSome o P → IfSome o Q

@@ -1,4 +1,5 @@
 pub mod EndsLemmas
+pub mod FarLemmas
 pub mod FoundLemmas
 pub mod IndexLemmas
 pub mod ListedLemmas

@@ -1,6 +1,7 @@
 -- What stays so of a table of edges.
 use Rattle.std.proofs.Common.{◌≡◌, ◌≢◌, ◌+◌, ◌-◌, ◌<◌, ◌^◌, ℕ, zero, suc, Bool, true, false, cond, List, [], ◌∷◌, ◌++◌, Option, Some, None, length, get_or, set, map, take, refl, sym, ◌∙◌, ap, subst, arith}
 use Rattle.std.proofs.ByRecursion.{All-push}
+use Rattle.std.proofs.Math.Seq.{map-set_same}
 use Rattle.std.proofs.lemmas.Bool.{false≢true}
 use Rattle.std.proofs.lemmas.List.{length-append, length-set, length-take}
 use Rattle.std.specs.List.{AllByRecursion, IsDistinct}
@@ -28,6 +29,13 @@ to_of e = e.to
 -- both ends of an edge are places
 abbrev IsInside : ℕ → Edge → Type 0
 IsInside n e = (e.owner < n) × (e.target < n)
+
+-- no place and no edge
+pub table-none : (pairs : List (Actor × Actor)) (edges : List Edge) (places : List PlaceEnds) → pairs ≡ [] → edges ≡ [] → places ≡ [] → IsTable pairs edges places
+unfolding IsDistinct
+table-none pairs edges places no_pair no_edge no_place =
+    let none : IsTable [] [] [] = record { long = refl; few_edges = omega arith; few_places = omega arith; distinct = tt; ends = tt; from = λ p. refl; to = λ p. refl } in
+    subst (λ ps. IsTable ps edges places) (sym no_pair) (subst (λ es. IsTable [] es places) (sym no_edge) (subst (IsTable [] []) (sym no_place) none))
 
 -- a place without edges is added
 pub table-place_added : (pairs : List (Actor × Actor)) (edges : List Edge) (places more : List PlaceEnds) (new : PlaceEnds) → IsTable pairs edges places → new.from ≡ [] → new.to ≡ [] → length places + 1 < 2 ^ 32 → more ≡ places ++ new ∷ [] → IsTable pairs edges more
@@ -68,12 +76,6 @@ table-place_removed pairs edges places fewer last table is no_owner no_target =
         let no_target = targets.0 in
         ((omega arith, omega arith), inside edges all.1 owners.1 targets.1 long)
 
--- the ends of the edges stay where an edge keeps its own
-pub ends-stay : (old new : Edge) (end : Edge → ℕ) (edges : List Edge) (i : ℕ) → i < length edges → old ≡ get_or edges i old → end new ≡ end old → map end (set edges i new) ≡ map end edges
-ends-stay old new end [] i inside read same = absurd (omega arith)
-ends-stay old new end (e ∷ edges) zero inside read same = ap (λ n. n ∷ map end edges) (same ∙ ap end read)
-ends-stay old new end (e ∷ edges) (suc i) inside read same = ap (λ ns. end e ∷ ns) (ends-stay old new end edges i (omega arith) read same)
-
 -- an edge keeps its ends
 pub table-edge_changed : (pairs : List (Actor × Actor)) (edges : List Edge) (places : List PlaceEnds) (i : ℕ) (old new : Edge) → IsTable pairs edges places → i < length edges → old ≡ get_or edges i old → new.owner ≡ old.owner → new.target ≡ old.target → IsTable pairs (set edges i new) places
 table-edge_changed pairs edges places i old new table inside read same_owner same_target =
@@ -83,8 +85,8 @@ table-edge_changed pairs edges places i old new table inside read same_owner sam
       few_places = table.few_places;
       distinct = table.distinct;
       ends = kept edges i table.ends inside read;
-      from = λ p. table.from p ∙ sym (ends-same owner_of target_of refl edges (set edges i new) refl (ends-stay old new owner_of edges i inside read same_owner) (ends-stay old new target_of edges i inside read same_target) p);
-      to = λ p. table.to p ∙ sym (ends-same target_of owner_of refl edges (set edges i new) refl (ends-stay old new target_of edges i inside read same_target) (ends-stay old new owner_of edges i inside read same_owner) p);
+      from = λ p. table.from p ∙ sym (ends-same owner_of target_of refl edges (set edges i new) refl (map-set_same owner_of edges i new old (same_owner ∙ ap owner_of read)) (map-set_same target_of edges i new old (same_target ∙ ap target_of read)) p);
+      to = λ p. table.to p ∙ sym (ends-same target_of owner_of refl edges (set edges i new) refl (map-set_same target_of edges i new old (same_target ∙ ap target_of read)) (map-set_same owner_of edges i new old (same_owner ∙ ap owner_of read)) p);
     }
   where
     kept : (edges : List Edge) (i : ℕ) → AllByRecursion (IsInside (length places)) edges → i < length edges → old ≡ get_or edges i old → AllByRecursion (IsInside (length places)) (set edges i new)

@@ -1,4 +1,5 @@
 pub mod Ends
-pub mod Index
+pub mod Far
+pub mod Paired
 pub mod Partition
 pub mod Table

@@ -1,5 +1,5 @@
 -- What contracts see of a table of edges.
-use Rattle.std.specs.Prelude.{◌≡◌, ◌&&◌, ◌<◌, ◌^◌, ◌↔◌, ℕ, Bool, true, List, Option, Some, length, map, nat_lt, position, slice_index_or, slice_set}
+use Rattle.std.specs.Prelude.{◌≡◌, ◌&&◌, ◌<◌, ◌^◌, ◌+ℤ◌, ◌-ℤ◌, ◌↔◌, ℕ, Bool, true, List, Option, Some, int_lt, length, map, pos, position, slice_index_or, slice_set}
 use Rattle.std.specs.List.{AllByRecursion, IsDistinct}
 use Rattle.crgc_ids.specs.Actor.{Actor, same_actor}
 use Rattle.crgc_ids.specs.Members.{IsAmong}
@@ -21,7 +21,7 @@ abbrev pub number_at : Edges → Actor → Actor → Option ℕ
 number_at t owner target = position (same_pair (owner, target)) t.pairs
 
 abbrev pub no_edge : Edge
-no_edge = record { owner = 0; target = 0; given = 0; released = 0 }
+no_edge = record { owner = 0; target = 0; count = pos 0 }
 
 -- what is kept of the edge with this number
 abbrev pub edge_at : Edges → ℕ → Edge
@@ -55,9 +55,16 @@ ends_from edges place = ends_of (λ e. e.target) edges (edges_from edges place)
 abbrev pub ends_to : List Edge → ℕ → List (ℕ × ℕ)
 ends_to edges place = ends_of (λ e. e.owner) edges (edges_to edges place)
 
--- whether more references were given along the edge than released
+-- an edge with so many references more that were given, or released
+abbrev pub with_given : ℕ → Edge → Edge
+with_given n e = record e { count = e.count +ℤ pos n }
+
+abbrev pub with_released : ℕ → Edge → Edge
+with_released n e = record e { count = e.count -ℤ pos n }
+
+-- whether the edge has a count above 0
 abbrev pub is_positive : Edge → Bool
-is_positive e = nat_lt e.released e.given
+is_positive e = int_lt (pos 0) e.count
 
 -- whether the edge with this number is
 abbrev pub is_positive_at : List Edge → ℕ → Bool

@@ -8,11 +8,11 @@ use std::alloc::Global;
 use std::marker::Model;
 
 /// The edges that lead from a place, and those that lead to it, each by the place of its other end and its number, with reserved
-/// room for more. Up to four of a list stand in the value itself, and more in an allocation. Contracts see both lists, and for how
-/// many more each has room.
+/// room for more. Up to three that lead from it and four that lead to it stand in the value itself, and more in an allocation.
+/// Contracts see both lists, and for how many more each has room.
 #[derive(Drop)]
 pub struct Ends {
-    from: SmallVec<(u32, u32), 4>,
+    from: SmallVec<(u32, u32), 3>,
     to: SmallVec<(u32, u32), 4>,
 }
 

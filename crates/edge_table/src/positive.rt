@@ -4,6 +4,7 @@ ghost use Rattle.crgc_ids.specs.Members.{IsAmong};
 ghost use Rattle.edge_table.specs.Partition.{AreRising, CountsAt, IsKeptOf, IsParted, Parted, kept_of, numbers_in};
 ghost use Rattle.edge_table.specs.Table.{is_positive, is_positive_at};
 
+use crate::edge_list::EdgeList;
 use crate::partition::Partition;
 use crate::table::Edge;
 use crgc_ids::NoMemory;
@@ -45,14 +46,14 @@ impl PositiveEdges {
     /// place. Amortized constant time, or linear time in these edges where they are more than 128 and nothing was kept of the place;
     /// and linear time in the place where it is the first so high.
     #[inline(always)]
-    pub fn grow(&mut self, place: u32, ends: &[(u32, u32)], end: (u32, u32), edges: &[Edge])
+    pub fn grow(&mut self, place: u32, ends: &[(u32, u32)], end: (u32, u32), edges: &EdgeList)
         requires rising { AreRising (numbers_in ends.now) }
         requires few { length ends.now < 2 ^ 32 }
-        requires within { (n : ℕ) → IsAmong n (numbers_in ends.now) → n < length edges.now }
-        requires free { is_positive_at edges.now end.1 ≡ false }
+        requires within { (n : ℕ) → IsAmong n (numbers_in ends.now) → n < length edges.now.edges }
+        requires free { is_positive_at edges.now.edges end.1 ≡ false }
         requires kept { (before : List (ℕ × ℕ)) × (ends.now ≡ before ++ end ∷ [])
-            × IsKeptOf before (is_positive_at edges.now) (kept_of self.old place) }
-        ensures kept { IsKeptOf ends.now (is_positive_at edges.now) (kept_of self.new place) }
+            × IsKeptOf before (is_positive_at edges.now.edges) (kept_of self.old place) }
+        ensures kept { IsKeptOf ends.now (is_positive_at edges.now.edges) (kept_of self.new place) }
         ensures others { (p : ℕ) → p ≢ place → kept_of self.new p ≡ kept_of self.old p }
     {
         if ends.len() <= MANY {
@@ -166,23 +167,23 @@ impl PositiveEdges {
     }
 }
 
-/// Whether more references were given along the edge than released.
+/// Whether the edge has a count above 0.
 pub fn is_positive(edge: Edge) -> bool
     ensures { result ≡ is_positive edge }
 {
-    edge.released < edge.given
+    edge.count > 0
 }
 
 /// The edges of the list, of which the positive count. Linear time.
-fn partition_of(alloc: Global, ends: &[(u32, u32)], edges: &[Edge]) -> Result<Partition, NoMemory>
+fn partition_of(alloc: Global, ends: &[(u32, u32)], edges: &EdgeList) -> Result<Partition, NoMemory>
     requires rising { AreRising (numbers_in ends.now) }
     requires few { length ends.now < 2 ^ 32 }
-    requires within { (n : ℕ) → IsAmong n (numbers_in ends.now) → n < length edges.now }
-    ensures { IfOk result (λ s. IsParted ends.now (is_positive_at edges.now) s) }
+    requires within { (n : ℕ) → IsAmong n (numbers_in ends.now) → n < length edges.now.edges }
+    ensures { IfOk result (λ s. IsParted ends.now (is_positive_at edges.now.edges) s) }
 {
     let mut partition = partition_of_none(alloc, ends)?;
     for i in 0..ends.len() {
-        let counts = is_positive(edges[ends[i].1 as usize]);
+        let counts = is_positive(edges.get(ends[i].1 as usize));
         partition.set_at(i, counts);
     }
     Ok(partition)

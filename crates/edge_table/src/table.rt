@@ -1,26 +1,27 @@
 //! Edges by number and by place.
-ghost use Rattle.std.specs.Prelude.{◌≡◌, ◌+◌, ◌-◌, ◌<◌, ◌≤◌, ◌^◌, ◌++◌, [], ◌∷◌, None, IfOk, IfSome, OnErr, OnOk, length, take, vec_capacity, vec_len};
+ghost use Rattle.std.specs.Prelude.{◌≡◌, ◌+◌, ◌-◌, ◌<◌, ◌≤◌, ◌^◌, ◌+ℤ◌, ◌-ℤ◌, ◌<ℤ◌, neg_ℤ, pos, ◌++◌, [], ◌∷◌, None, IfOk, IfSome, OnErr, OnOk, length, take};
 ghost use Rattle.std.specs.Bool.{Decides};
 ghost use Rattle.std.specs.List.{IsDistinct};
 ghost use Rattle.edge_table.specs.Ends.{HasRoom, HaveSameLists};
 ghost use Rattle.edge_table.specs.declared.near.TheConstants.{NEAR};
-ghost use Rattle.edge_table.specs.Table.{ArePositive, HasEnds, edge_at, edges_from, edges_to, ends_from, ends_to, number_at, same_pair, with_edge};
+ghost use Rattle.edge_table.specs.Table.{ArePositive, HasEnds, edge_at, edges_from, edges_to, ends_from, ends_to, number_at, same_pair, with_edge, with_given, with_released};
 
+use crate::edge_list::EdgeList;
 use crate::ends::Ends;
+use crate::far_edges::FarEdges;
 use crate::near::{NEAR, number_near};
-use crate::pair_index::PairIndex;
 use crate::positive::{MANY, PositiveEdges, is_positive};
 use crgc_ids::{ActorId, NoMemory};
 use std::alloc::Global;
 use std::marker::Model;
 
-/// An edge: the places of its owner and its target, how many references the owner was given, and how many it released.
+/// An edge: the places of its owner and its target, and how many more references the owner was given than it released, which is
+/// below 0 where a release is known before its gift.
 #[derive(Clone, Copy, PartialEq, Eq, Debug)]
 pub struct Edge {
     pub owner: u32,
     pub target: u32,
-    pub given: u64,
-    pub released: u64,
+    pub count: i64,
 }
 
 /// The edges between actors, numbered from 0 in the order in which they were added, and for each place those that lead from it and
@@ -29,8 +30,8 @@ pub struct Edge {
 #[derive(Drop)]
 pub struct EdgeTable {
     alloc: Global,
-    pairs: PairIndex,
-    edges: Vec<Edge>,
+    edges: EdgeList,
+    far: FarEdges,
     places: Vec<Ends>,
     by_owner: PositiveEdges,
     by_target: PositiveEdges,
@@ -38,15 +39,15 @@ pub struct EdgeTable {
 
 impl Model for EdgeTable {
     ghost use Rattle.std.specs.Prelude.{length};
-    ghost use Rattle.edge_table.specs.Index.{AreFound};
+    ghost use Rattle.edge_table.specs.Far.{AreFound};
     ghost use Rattle.edge_table.specs.Table.{ArePositiveKept, Edges, IsTable};
 
     ghost Value = { Edges };
 
-    ghost view = { λ t. record { pairs = t.pairs.pairs; edges = t.edges.items; places = length t.places.items } };
+    ghost view = { λ t. record { pairs = t.edges.pairs; edges = t.edges.edges; places = length t.places.items } };
 
-    ghost invariant = { λ t. IsTable t.pairs.pairs t.edges.items t.places.items × (AreFound t.pairs t.edges.items
-        × ArePositiveKept t.edges.items t.by_owner t.by_target) };
+    ghost invariant = { λ t. IsTable t.edges.pairs t.edges.edges t.places.items × (AreFound t.far t.edges.edges
+        × ArePositiveKept t.edges.edges t.by_owner t.by_target) };
 }
 
 impl EdgeTable {
@@ -56,8 +57,8 @@ impl EdgeTable {
     {
         EdgeTable {
             alloc,
-            pairs: PairIndex::new(alloc),
-            edges: Vec::new(alloc),
+            edges: EdgeList::new(alloc),
+            far: FarEdges::new(alloc),
             places: Vec::new(alloc),
             by_owner: PositiveEdges::new(alloc),
             by_target: PositiveEdges::new(alloc),
@@ -137,10 +138,10 @@ impl EdgeTable {
         if let Some(number) = number_near(to, owner_place) {
             return Some(number);
         }
-        self.pairs.number_mapped(owner, target)
+        self.far.number(owner_place, target_place)
     }
 
-    /// There is one edge more, the last, with nothing given and released; its number is the answer. After `NoMemory`, which
+    /// There is one edge more, the last, with count 0; its number is the answer. After `NoMemory`, which
     /// comes too where there are 2^32 - 1 edges, all is as before. Amortized constant time, or logarithmic time where the edge is among
     /// the first 8 in neither list; but linear time in the edges from its owner or to its target where these are more than 128 and the
     /// positive ones not kept apart, as after one of them was taken away.
@@ -157,7 +158,7 @@ impl EdgeTable {
         ensures number { IfOk result (λ number. number ≡ length self.old.edges) }
         ensures ok { OnOk result (self.new ≡ record self.old {
           pairs = self.old.pairs ++ (owner, target) ∷ [];
-          edges = self.old.edges ++ record { owner = owner_place; target = target_place; given = 0; released = 0 } ∷ [];
+          edges = self.old.edges ++ record { owner = owner_place; target = target_place; count = pos 0 } ∷ [];
         }) }
         ensures err { OnErr result (self.new ≡ self.old) }
     {
@@ -169,25 +170,25 @@ impl EdgeTable {
         if reserve(&mut self.edges, &mut self.places, from, to).is_err() {
             return Err(NoMemory);
         }
-        let in_map = are_full(&self.places[from], &self.places[to]);
-        if self.pairs.push(owner, target, in_map).is_err() {
+        let number = number as u32;
+        let is_far = are_full(&self.places[from], &self.places[to]);
+        let put = self.far.push(owner_place, target_place, number, is_far);
+        if put.is_err() {
             return Err(NoMemory);
         }
-        self.edges.push_reserved(Edge {
+        let edge = Edge {
             owner: owner_place,
             target: target_place,
-            given: 0,
-            released: 0,
-        });
-        let number = number as u32;
+            count: 0,
+        };
+        self.edges.push(owner, target, edge);
         let (leaves, comes) = ((target_place, number), (owner_place, number));
         self.places[from].push_from(leaves);
         self.places[to].push_to(comes);
-        let edges = self.edges.as_slice();
         self.by_owner
-            .grow(owner_place, self.places[from].from(), leaves, edges);
+            .grow(owner_place, self.places[from].from(), leaves, &self.edges);
         self.by_target
-            .grow(target_place, self.places[to].to(), comes, edges);
+            .grow(target_place, self.places[to].to(), comes, &self.edges);
         Ok(number)
     }
 
@@ -199,8 +200,9 @@ impl EdgeTable {
           edges = take kept self.old.edges;
         } }
     {
-        self.pairs.pop();
         if let Some(edge) = self.edges.pop() {
+            let number = self.edges.len() as u32;
+            self.far.remove(edge.owner, edge.target, number);
             self.places[edge.owner as usize].pop_from();
             self.places[edge.target as usize].pop_to();
             self.by_owner.forget(edge.owner);
@@ -215,40 +217,29 @@ impl EdgeTable {
         ensures owner { result.owner < self.now.places }
         ensures target { result.target < self.now.places }
     {
-        self.edges[number as usize]
+        self.edges.get(number as usize)
     }
 
     /// So many more references are given along the edge. Constant time, or logarithmic time where it becomes positive.
-    pub fn give(&mut self, number: u32, count: u64)
+    pub fn give(&mut self, number: u32, count: u32)
         requires some { number < length self.old.edges }
-        requires fits { (edge_at self.old number).given + count < 2 ^ 64 }
-        ensures { let e = edge_at self.old number in self.new ≡ with_edge self.old number (record e { given = e.given + count }) }
+        requires fits { ((edge_at self.old number).count +ℤ pos count) <ℤ pos (2 ^ 63) }
+        ensures { self.new ≡ with_edge self.old number (with_given count (edge_at self.old number)) }
     {
-        let mut edge = self.edges[number as usize];
-        edge.given += count;
+        let mut edge = self.edges.get(number as usize);
+        edge.count += i64::from(count);
         self.write(number, edge);
     }
 
-    /// So many of the references that were given along the edge are taken back. Constant time, or logarithmic time where it is
-    /// positive no longer.
-    pub fn take_back(&mut self, number: u32, count: u64)
+    /// So many more references are released along the edge, or as many of those that were given are taken back. Constant time, or
+    /// logarithmic time where it is positive no longer.
+    pub fn release(&mut self, number: u32, count: u32)
         requires some { number < length self.old.edges }
-        requires given { count ≤ (edge_at self.old number).given }
-        ensures { let e = edge_at self.old number in self.new ≡ with_edge self.old number (record e { given = e.given - count }) }
+        requires fits { neg_ℤ (pos (2 ^ 63)) <ℤ ((edge_at self.old number).count -ℤ pos count) }
+        ensures { self.new ≡ with_edge self.old number (with_released count (edge_at self.old number)) }
     {
-        let mut edge = self.edges[number as usize];
-        edge.given -= count;
-        self.write(number, edge);
-    }
-
-    /// So many more references are released along the edge. Constant time, or logarithmic time where it is positive no longer.
-    pub fn release(&mut self, number: u32, count: u64)
-        requires some { number < length self.old.edges }
-        requires fits { (edge_at self.old number).released + count < 2 ^ 64 }
-        ensures { let e = edge_at self.old number in self.new ≡ with_edge self.old number (record e { released = e.released + count }) }
-    {
-        let mut edge = self.edges[number as usize];
-        edge.released += count;
+        let mut edge = self.edges.get(number as usize);
+        edge.count -= i64::from(count);
         self.write(number, edge);
     }
 
@@ -261,8 +252,8 @@ impl EdgeTable {
         requires target { edge.target ≡ (edge_at self.old number).target }
         ensures { self.new ≡ with_edge self.old number edge }
     {
-        let old = self.edges[number as usize];
-        self.edges[number as usize] = edge;
+        let old = self.edges.get(number as usize);
+        self.edges.set(number as usize, edge);
         let counts = is_positive(edge);
         if is_positive(old) == counts {
             return;
@@ -291,9 +282,9 @@ impl EdgeTable {
         self.places[place as usize].to()
     }
 
-    /// The positive edges from the place, along which more references were given than released, of each the place of its target and
-    /// its number. If the place has more than 128 edges there is no other, as long as there was memory to keep them apart; else there
-    /// may be others of its edges. Constant time.
+    /// The positive edges from the place, whose count is above 0, of each the place of its target and its number. If the place has
+    /// more than 128 edges there is no other, as long as there was memory to keep them apart; else there may be others of its edges.
+    /// Constant time.
     pub fn positive_from(&self, place: u32) -> &[(u32, u32)]
         requires { place < self.now.places }
         ensures { ArePositive (λ e. e.owner) (λ e. e.target) self.now.edges place result.now }
@@ -333,22 +324,19 @@ fn are_full(from: &Ends, to: &Ends) -> bool
 
 /// Room for one more edge, also from the one place and to the other.
 fn reserve(
-    edges: &mut Vec<Edge>,
+    edges: &mut EdgeList,
     places: &mut Vec<Ends>,
     from: usize,
     to: usize,
 ) -> Result<(), NoMemory>
     requires from { from < length places.old.items }
     requires to { to < length places.old.items }
-    ensures edges { edges.new.items ≡ edges.old.items }
+    ensures pairs { edges.new.pairs ≡ edges.old.pairs }
+    ensures edges { edges.new.edges ≡ edges.old.edges }
     ensures places { HaveSameLists places.old.items places.new.items }
-    ensures ok { OnOk result (HasRoom (vec_capacity edges.new - vec_len edges.new) places.new.items from to) }
+    ensures ok { OnOk result (HasRoom edges.new.room places.new.items from to) }
 {
-    if edges.reserve(1).is_err() {
-        return Err(NoMemory);
-    }
-    if places[from].reserve_from().is_err() {
-        return Err(NoMemory);
-    }
+    edges.reserve()?;
+    places[from].reserve_from()?;
     places[to].reserve_to()
 }

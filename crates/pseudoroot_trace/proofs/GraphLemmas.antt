@@ -15,20 +15,20 @@ pub is-or-not : (a : Bool) → (a ≡ true) ⊎ (a ≡ false)
 is-or-not true = inl refl
 is-or-not false = inr refl
 
--- ---- an edge along which more was given than released
+-- ---- a positive edge
 
-nothing-positive : (e : Edge) → e ≡ no_edge → nat_lt e.released e.given ≡ true → ⊥
-nothing-positive e is t = false≢true (ap (λ (x : Edge). nat_lt x.released x.given) (sym is) ∙ t)
+nothing-positive : (e : Edge) → e ≡ no_edge → is_positive e ≡ true → ⊥
+nothing-positive e is t = false≢true (ap is_positive (sym is) ∙ t)
 
 -- it is there
-pub positive-there : (g : Graph) → ArePlaced g → (b a : Actor) → nat_lt (edge_between g.edges b a).released (edge_between g.edges b a).given ≡ true → has_pair g.edges.pairs b a ≡ true
+pub positive-there : (g : Graph) → ArePlaced g → (b a : Actor) → is_positive (edge_between g.edges b a) ≡ true → has_pair g.edges.pairs b a ≡ true
 positive-there g placed b a positive =
     elim (is-or-not (has_pair g.edges.pairs b a)) [
       | inl there ↦ there
       | inr apart ↦ absurd (nothing-positive (edge_between g.edges b a) (placed.none b a apart) positive)
     ]
 
-pub leads-parts : (out : Bool) (e : Edge) → (not out && nat_lt e.released e.given) ≡ true → (out ≡ false) × (nat_lt e.released e.given ≡ true)
+pub leads-parts : (out : Bool) (e : Edge) → (not out && is_positive e) ≡ true → (out ≡ false) × (is_positive e ≡ true)
 leads-parts true e t = absurd (false≢true t)
 leads-parts false e t = (refl, t)
 

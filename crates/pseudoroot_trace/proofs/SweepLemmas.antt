@@ -1,7 +1,7 @@
 -- The marks of a shadow graph that stands for a fold are those of a sweep of the fold.
 use Rattle.std.proofs.Common.{◌≡◌, ◌↔◌, ◌&&◌, ◌||◌, ◌==◌, ◌+◌, ◌++◌, not, ℕ, Bool, true, false, List, [], ◌∷◌, Option, Some, None, refl, sym, ◌∙◌, ap, subst, inl, inr}
 use Rattle.std.proofs.lemmas.Bool.{false≢true}
-use Rattle.std.specs.Prelude.{nat_lt}
+use Rattle.std.specs.Prelude.{int_lt, pos}
 use Rattle.crgc_ids.proofs.ActorLaws.{same_actor-decides}
 use Rattle.crgc_ids.proofs.MembersLaws.{list_any-member, list_any-true}
 use Rattle.crgc_ids.specs.Actor.{Actor, same_actor}
@@ -13,7 +13,9 @@ use Rattle.history_model.specs.Compaction.{IsMarked, compacted_dead, is_left_out
 use Rattle.history_model.specs.Facts.{Flags}
 use Rattle.history_model.specs.Folds.{Fold, is_lost}
 use Rattle.history_model.specs.Graph as model
-use Rattle.history_model.specs.Graph.{has_edge, known_actors, own_flags}
+use Rattle.history_model.specs.Graph.{has_edge, known_actors, own_flags, released_count}
+use Rattle.edge_table.specs.Table.{is_positive}
+use Rattle.shadow_graph.proofs.OwnersLemmas.{positive-less}
 use Rattle.history_model.specs.Reached.{IsChain, IsReachedWithout}
 use Rattle.place_marks.proofs.ReachLemmas.{reached-closed, reached-on, reached-start}
 use Rattle.place_marks.specs.Graph.{IsReached}
@@ -64,8 +66,8 @@ module _ (cl : Cluster) (f : Fold) (g : Graph) (placed : ArePlaced g) (stands : 
       || not (stands.counts.received a i == stands.counts.told a i + stands.counts.admitted a i)
       )
 
-  edge-same : (b a : Actor) → nat_lt (edge_between g.edges b a).released (edge_between g.edges b a).given ≡ has_edge cl (is_lost cl f) f b a
-  edge-same b a = λ i. nat_lt (stands.counts.released b a i) (stands.counts.given b a i)
+  edge-same : (b a : Actor) → is_positive (edge_between g.edges b a) ≡ has_edge cl (is_lost cl f) f b a
+  edge-same b a = ap (int_lt (pos 0)) (stands.counts.count b a) ∙ positive-less _ (released_count cl f b a)
 
   -- known is named
   known-named : (a : Actor) → IsAmong a (known_actors cl f) → is_named g.shadows.names a ≡ true

@@ -1,5 +1,5 @@
 -- The marks of a graph stand as it changes, but for those of the places that are touched.
-use Rattle.std.proofs.Common.{◌≡◌, ◌==◌, ◌+◌, ◌<◌, ◌≤◌, ◌&&◌, ◌||◌, not, ℕ, Bool, true, false, cond, List, [], Option, Some, get_or, length, length-append, append-nil, nat_lt, refl, sym, ◌∙◌, ap, subst, inl, inr, arith}
+use Rattle.std.proofs.Common.{◌≡◌, ◌==◌, ◌+◌, ◌<◌, ◌≤◌, ◌&&◌, ◌||◌, not, ℕ, Bool, true, false, cond, List, [], Option, Some, get_or, length, int_lt, length-append, append-nil, pos, refl, sym, ◌∙◌, ap, subst, inl, inr, arith}
 use Rattle.std.proofs.Math.ListN.{get_or-append}
 use Rattle.std.proofs.lemmas.Bool.{false≢true}
 use Rattle.std.specs.Option.{is_some}
@@ -36,7 +36,7 @@ pub record StaysAt (g h : Graph) (a : Actor) : Type 0 where
 pub left-stays : (g h : Graph) (a : Actor) → lost_in h ≡ lost_in g → LeavesActor g.shadows h.shadows g.edges h.edges a → StaysAt g h a
 left-stays g h a lost left = record {
   start = λ i. starts (left.shadow i) (lost i);
-  steps = λ b i. not ((left.shadow i).dropped || has_node (lost i) a.node) && nat_lt (left.released b i) (left.given b i);
+  steps = λ b i. not ((left.shadow i).dropped || has_node (lost i) a.node) && int_lt (pos 0) (left.count b i);
 }
   where
     starts : Shadow → List ℕ → Bool
@@ -50,8 +50,7 @@ pub other-stays : (g h : Graph) (actor a : Actor) → Drops actor g h → same_a
 other-stays g h actor a drops apart =
     left-stays g h a (dropped-lost g h actor drops) (record {
       shadow = drops.shadows.shadows a ∙ ap (λ v. cond v (as_dropped (shadow_at g.shadows a)) (shadow_at g.shadows a)) apart;
-      given = λ b i. (edge_between (drops.edges i) b a).given;
-      released = λ b i. (edge_between (drops.edges i) b a).released;
+      count = λ b i. (edge_between (drops.edges i) b a).count;
     })
 
 -- ---- a mark stands in the graph as it became

@@ -2,7 +2,7 @@
 use Rattle.std.specs.Prelude.{◌≡◌, ◌==◌, ◌+◌, ◌&&◌, ◌||◌, not, if◌then◌else◌, ℕ, Bool, List, [], true, Option, None, Some, length, nat_lt}
 use Rattle.crgc_ids.specs.Actor.{Actor}
 use Rattle.crgc_ids.specs.Nodes.{has_node}
-use Rattle.edge_table.specs.Table.{edge_at}
+use Rattle.edge_table.specs.Table.{edge_at, is_positive}
 use Rattle.place_marks.specs.Graph as places
 use Rattle.shadow_table.specs.Shadows.{shadow_at}
 use Rattle.shadow_graph.specs.Graph.{Graph, lost_in}
@@ -34,7 +34,7 @@ is_start g a = not (is_out g a) && is_pseudoroot g a
 
 -- whether marks go along the edge: it is positive, and its target is not left out
 abbrev pub leads : Graph → Actor → Actor → Bool
-leads g b a = let e = edge_between g.edges b a in not (is_out g a) && nat_lt e.released e.given
+leads g b a = not (is_out g a) && is_positive (edge_between g.edges b a)
 
 -- whether there is an edge with this number, and marks go along it
 abbrev pub goes_along : Graph → ℕ → Bool

@@ -1,8 +1,9 @@
 -- The graph with nothing folded.
-use Rattle.std.proofs.Common.{◌≡◌, ◌≤◌, ◌++◌, ℕ, Bool, true, false, cond, List, [], ◌∷◌, Some, None, get_or, replicate, refl, sym, ◌∙◌, ap, subst, arith}
+use Rattle.std.proofs.Common.{◌≡◌, ◌≤◌, ◌++◌, ℕ, Bool, true, false, cond, List, [], ◌∷◌, Option, Some, None, get_or, replicate, refl, rules, sym, ◌∙◌, ap, subst, arith, ◌<◌, ◌+◌}
+use Rattle.std.proofs.lemmas.Int.{ints}
 use Rattle.std.proofs.lemmas.List.{get_or-replicate}
 use Rattle.std.proofs.lemmas.List.Concat.{flat_map-cons}
-use Rattle.std.specs.List.{flat_map, position_or_len}
+use Rattle.std.specs.List.{AllByRecursion, flat_map, position_or_len}
 use Rattle.crgc_ids.specs.Actor.{Actor}
 use Rattle.crgc_ids.specs.Members.{IsAmong}
 use Rattle.history_model.specs.Cluster.{Cluster}
@@ -10,16 +11,19 @@ use Rattle.history_model.specs.Facts.{Fact, is_created, is_received, is_released
 use Rattle.history_model.specs.Folds.{final_links, is_lost, links_into}
 use Rattle.history_model.specs.Graph.{delta_facts, known_actors, named_by, notice_facts, rising_actors}
 use Rattle.history_model.specs.Tally.{tally}
+use Rattle.crgc_ids.specs.LostNodes.{lost_nodes}
 use Rattle.crgc_ids.specs.Nodes.{nodes_below}
-use Rattle.edge_table.specs.Table.{no_edge, same_pair}
+use Rattle.edge_table.specs.Table.{Edges, no_edge, same_pair}
 use Rattle.edge_table.specs.declared.table.Edge.{Edge}
-use Rattle.membership.specs.Noted.{links_of}
+use Rattle.membership.specs.Noted.{Noted, links_of}
 use Rattle.shadow_table.specs.Shadows.{Shadows, no_shadows, shadow_at}
 use Rattle.std.specs.Prelude.{slice_index_or}
-use Rattle.undo_log.specs.Told.{rows_of}
+use Rattle.undo_log.specs.Told.{admitted_from, rows_of, told_by}
+use Rattle.undo_log.specs.declared.corrections.Correction.{Correction}
 use Rattle.undo_log.specs.Totals.{admitted_total, told_total}
 use Rattle.shadow_graph.specs.Graph.{Graph}
 use Rattle.shadow_rows.specs.Pairs.{edge_between}
+use Rattle.shadow_graph.specs.Kept.{IsKept}
 use Rattle.shadow_graph.specs.Stands.{IsGraphOf}
 
 flat_map-none : {X Y : Type 0} (f : X → List Y) → ((x : X) → f x ≡ []) → (xs : List X) → flat_map f xs ≡ []
@@ -54,13 +58,13 @@ nothing-folded cl g few nodes links cut shadows pairs edges log =
         told = λ a. ap (λ (s : Shadows). (shadow_at s a).told) shadows ∙ sym (told (is_sent_to a));
         admitted = λ a. ap (λ (s : Shadows). (shadow_at s a).admitted) shadows ∙ sym (none (is_sent_to a));
         flags = λ a. ap (λ (s : Shadows). (shadow_at s a).flags) shadows;
-        given = λ b a. (
-            let here = ap (λ (e : Edge). e.given) (edge b a) in
+        count = λ b a. (
+            let here = ap (λ (e : Edge). e.count) (edge b a) in
             let made = told (is_created b a) in
             let brought = none (is_created b a) in
-            omega (arith, here, made, brought)
+            let released = none (is_released b a) in
+            omega (arith, ints, here, made, brought, released)
             );
-        released = λ b a. ap (λ (e : Edge). e.released) (edge b a) ∙ sym (none (is_released b a));
       };
       log = record {
         told = λ n below a. ap (told_total None a) (log n);
@@ -73,3 +77,34 @@ nothing-folded cl g few nodes links cut shadows pairs edges log =
         λ l m. absurd (subst (IsAmong l) finals m),
       );
     }
+
+-- what is kept where nothing is folded
+pub nothing-kept : (s : Shadows) (e : Edges) (log : List (List Correction)) (finals : Noted) (lost cut : List ℕ) → s ≡ no_shadows → e ≡ record { pairs = []; edges = []; places = 0 } → ((n : ℕ) → rows_of log n ≡ []) → finals.nodes ≤ 16 → lost ≡ lost_nodes finals.nodes (links_of finals) → cut ≡ replicate 16 0 → IsKept s e log finals lost cut
+nothing-kept s e log finals lost cut shadows edges noted few by_finals is =
+    let all : AllByRecursion (λ k. k ≤ 1000000) (replicate 16 0) = search rules in
+    let none : IsKept no_shadows (record { pairs = []; edges = []; places = 0 }) log finals lost (replicate 16 0) = record {
+      tabled = record { room = omega arith; owner_named = λ k inside. absurd (omega arith); target_named = λ k inside. absurd (omega arith); owner = λ k inside. absurd (omega arith); target = λ k inside. absurd (omega arith) };
+      covered = λ n owner target some. absurd (nothing n owner target some);
+      within = record {
+        received = λ a. omega arith;
+        told = λ a. omega arith;
+        admitted = λ a. omega arith;
+        count = λ b a. (omega (arith, ints), omega (arith, ints));
+        log_told = λ n owner target. (let no = told n owner target in omega (arith, no));
+        log_admitted = λ n owner target. (let no = admitted n owner target in omega (arith, no));
+      };
+      by_finals = by_finals;
+      counts = all;
+      long = refl;
+      few = few;
+    } in
+    subst (λ (xs : List ℕ). IsKept s e log finals lost xs) (sym is) (subst (λ (f : Edges). IsKept s f log finals lost (replicate 16 0)) (sym edges) (subst (λ (t : Shadows). IsKept t (record { pairs = []; edges = []; places = 0 }) log finals lost (replicate 16 0)) (sym shadows) none))
+  where
+    told : (n : ℕ) (owner : Option Actor) (target : Actor) → told_by log n owner target ≡ 0
+    told n owner target = ap (told_total owner target) (noted n)
+
+    admitted : (n : ℕ) (owner : Option Actor) (target : Actor) → admitted_from log n owner target ≡ 0
+    admitted n owner target = ap (admitted_total owner target) (noted n)
+
+    nothing : (n : ℕ) (owner : Option Actor) (target : Actor) → 0 < told_by log n owner target + admitted_from log n owner target → ⊥
+    nothing n owner target some = (let no = told n owner target in let none = admitted n owner target in omega (arith, no, none, some))

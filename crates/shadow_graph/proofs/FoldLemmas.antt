@@ -1,6 +1,7 @@
 -- What the graph keeps as nodes are lost, and what it stands for once a bulletin is folded.
 use Rattle.std.proofs.Common.{◌≡◌, ◌+◌, ◌<◌, ◌≤◌, ◌&&◌, ◌⊎◌, ◌↔◌, ℕ, Bool, true, false, cond, not, List, [], ◌∷◌, Result, Ok, Err, OnOk, length, take, refl, sym, ◌∙◌, ap, subst, arith, count_by}
 use Rattle.std.proofs.lemmas.Bool.{false≢true}
+use Rattle.std.proofs.lemmas.Int.{ints}
 use Rattle.std.proofs.lemmas.List.{take_all}
 use Rattle.std.proofs.lemmas.List.Sums.{sum_by-cons}
 use Rattle.std.specs.List.{sum_by}
@@ -67,8 +68,15 @@ within-lost folded lost gain now s t e f log total corrects within = record {
   received = λ a. (let new = corrects.received a in let old = within.received a in omega (arith, new, old));
   told = λ a. (let new = corrects.told a in let old = within.told a in omega (arith, new, old));
   admitted = λ a. (let new = corrects.admitted a in let old = within.admitted a in omega (arith, new, old, total));
-  given = λ b a. (let new = corrects.given b a in let old = within.given b a in omega (arith, new, old, total));
-  released = λ b a. (let new = corrects.released b a in let old = within.released b a in omega (arith, new, old));
+  count = λ b a. (
+      let new = corrects.count b a in
+      let old = within.count b a in
+      let low = new.0 in
+      let was_low = old.0 in
+      let high = new.1 in
+      let was_high = old.1 in
+      (omega (arith, ints, low, was_low, total), omega (arith, ints, high, was_high, total))
+      );
   log_told = within.log_told;
   log_admitted = within.log_admitted;
 }
@@ -95,9 +103,9 @@ pub loses-seen : (log : List (List Correction)) (before before' after after' : L
 loses-seen log before before' after after' s t e f m n same same' loses =
     let moved : LosesNodes log before' after' s t e f = subst (λ xs. LosesNodes log xs after' s t e f) same (subst (λ xs. LosesNodes log before xs s t e f) same' loses) in
     λ cl fold few part below logs counts.
-    let was : CountsFold cl (has_node before') fold s e = record { received = counts.received; told = counts.told; admitted = counts.admitted; flags = counts.flags; given = counts.given; released = counts.released } in
+    let was : CountsFold cl (has_node before') fold s e = record { received = counts.received; told = counts.told; admitted = counts.admitted; flags = counts.flags; count = counts.count } in
     let now = moved cl fold few part below logs was in
-    record { received = now.received; told = now.told; admitted = now.admitted; flags = now.flags; given = now.given; released = now.released }
+    record { received = now.received; told = now.told; admitted = now.admitted; flags = now.flags; count = now.count }
 
 -- where no node is newly lost, nothing has to be settled
 pub loses-none : (log : List (List Correction)) (before after : List ℕ) (s : Shadows) (e : Edges) → before ≡ after → LosesNodes log before after s s e e

@@ -1,5 +1,6 @@
 -- What the graph keeps as it takes in bulletins.
 use Rattle.std.proofs.Common.{◌≡◌, ◌+◌, ◌*◌, ◌<◌, ◌≤◌, ◌==◌, ℕ, zero, suc, Bool, true, false, cond, List, [], ◌∷◌, Option, Some, None, length, get_or, set, refl, sym, ◌∙◌, ap, subst, arith, sum_by}
+use Rattle.std.proofs.lemmas.Int.{ints}
 use Rattle.std.proofs.lemmas.List.{length-set}
 use Rattle.std.proofs.lemmas.List.Sums.{count_by-le-length, sum_by-cons, sum_by-set}
 use Rattle.std.proofs.lemmas.Bool.Decides.{same_from_decides}
@@ -90,8 +91,14 @@ within-added folded lost node counts own link b s t e f log log' fits adds logs 
   received = λ a. (let new = ap (λ (x : Shadow). x.received) (adds.shadows a) in let old = within.received a in let more = fits.received a in omega (arith, new, old, more));
   told = λ a. (let new = ap (λ (x : Shadow). x.told) (adds.shadows a) in let old = within.told a in let more = fits.told a in omega (arith, new, old, more));
   admitted = λ a. (let new = ap (λ (x : Shadow). x.admitted) (adds.shadows a) in let old = within.admitted a in let more = fits.admitted a in omega (arith, new, old, more));
-  given = λ b a. (let new = adds.given b a in let old = within.given b a in let more = fits.given b a in omega (arith, new, old, more));
-  released = λ b a. (let new = adds.released b a in let old = within.released b a in let more = fits.released b a in omega (arith, new, old, more));
+  count = λ b a. (
+      let new = adds.count b a in
+      let low = (within.count b a).0 in
+      let high = (within.count b a).1 in
+      let given = fits.given b a in
+      let released = fits.released b a in
+      (omega (arith, ints, new, low, released), omega (arith, ints, new, high, given))
+      );
   log_told = λ n owner target. (let new = logs.told n owner target in let old = within.log_told n owner target in let more = fits.log_told n owner target in omega (arith, new, old, more));
   log_admitted = λ n owner target. (let new = logs.admitted n owner target in let old = within.log_admitted n owner target in let more = fits.log_admitted n owner target in omega (arith, new, old, more));
 }
@@ -135,8 +142,7 @@ kept-restored s t e f log log' finals lost cut kept same pairs edges logs tabled
       received = kept.within.received;
       told = kept.within.told;
       admitted = kept.within.admitted;
-      given = kept.within.given;
-      released = kept.within.released;
+      count = kept.within.count;
       log_told = kept.within.log_told;
       log_admitted = kept.within.log_admitted;
     } in
@@ -166,8 +172,11 @@ small-kept s e log finals lost cut kept =
       received = λ a. (let h = kept.within.received a in omega (arith, h, folded));
       told = λ a. (let h = kept.within.told a in omega (arith, h, folded));
       admitted = λ a. (let h = kept.within.admitted a in omega (arith, h, folded, few));
-      given = λ b a. (let h = kept.within.given b a in omega (arith, h, folded, few));
-      released = λ b a. (let h = kept.within.released b a in omega (arith, h, folded));
+      count = λ b a. (
+          let low = (kept.within.count b a).0 in
+          let high = (kept.within.count b a).1 in
+          (omega (arith, ints, low, folded, few), omega (arith, ints, high, folded, few))
+          );
     }
 
 pub log-small : (s : Shadows) (e : Edges) (log : List (List Correction)) (finals : Noted) (lost cut : List ℕ) → IsKept s e log finals lost cut → (n : ℕ) (owner : Option Actor) (target : Actor) → (told_by log n owner target ≤ 72057594037927936) × (admitted_from log n owner target ≤ 72057594037927936)

@@ -22,9 +22,9 @@ use Rattle.history_model.proofs.Basics.{same_actor-sym}
 use Rattle.history_model.proofs.RisingActors.{among-decides, rising_actors-rise}
 use Rattle.history_model.specs.Cluster.{Cluster}
 use Rattle.history_model.specs.Folds.{Fold, is_lost}
-use Rattle.history_model.specs.Graph.{has_edge, known_actors, named_by, notice_facts}
+use Rattle.history_model.specs.Graph.{has_edge, known_actors, named_by, notice_facts, released_count}
 use Rattle.history_model.specs.Sweeps.{stop_of}
-use Rattle.edge_table.specs.Table.{no_edge}
+use Rattle.edge_table.specs.Table.{is_positive, no_edge}
 use Rattle.edge_table.specs.declared.table.Edge.{Edge}
 use Rattle.shadow_table.specs.Shadows.{is_named, place_in}
 use Rattle.shadow_graph.proofs.GraphLemmas.{lost-same}
@@ -39,16 +39,18 @@ use Rattle.shadow_graph.specs.Stands.{IsGraphOf}
 
 -- ---- what the code tests
 
-owns-by : (lost : Bool) (e : Edge) (value : ℤ) (r : Bool) → value ≡ pos e.given -ℤ pos e.released → r ≡ (int_lt (pos 0) value && not lost) → r ≡ (not lost && nat_lt e.released e.given)
-owns-by true e value r is tells = tells ∙ and-false (int_lt (pos 0) value)
-  where
-    and-false : (b : Bool) → (b && false) ≡ false
-    and-false true = refl
-    and-false false = refl
-owns-by false e value r is tells = grind (arith, ints)
+-- a difference is positive where the first number is the greater
+pub positive-less : (more less : ℕ) → int_lt (pos 0) (pos more -ℤ pos less) ≡ nat_lt less more
+positive-less more less = grind (arith, ints)
 
-pub owns-value : (g : Graph) (b a : Actor) (value : ℤ) (r : Bool) → value ≡ pos (seen_edge g b a).given -ℤ pos (seen_edge g b a).released → r ≡ (int_lt (pos 0) value && not (has_node (lost_in g) b.node)) → r ≡ owns g b a
-owns-value g b a value r is tells = owns-by (has_node (lost_in g) b.node) (seen_edge g b a) value r is tells
+owns-by : (lost positive : Bool) (r : Bool) → r ≡ (positive && not lost) → r ≡ (not lost && positive)
+owns-by true true r tells = tells
+owns-by true false r tells = tells
+owns-by false true r tells = tells
+owns-by false false r tells = tells
+
+pub owns-value : (g : Graph) (b a : Actor) (value : ℤ) (r : Bool) → value ≡ (seen_edge g b a).count → r ≡ (int_lt (pos 0) value && not (has_node (lost_in g) b.node)) → r ≡ owns g b a
+owns-value g b a value r is tells = owns-by (has_node (lost_in g) b.node) (is_positive (seen_edge g b a)) r (tells ∙ ap (λ v. int_lt (pos 0) v && not (has_node (lost_in g) b.node)) is)
 
 -- one place more
 pub owner-none : (g : Graph) (a : Actor) (k : ℕ) (xs : List Actor) → owns g (actor_of g k) a ≡ false → xs ≡ xs ++ owners_at g a (k ∷ [])
@@ -87,12 +89,12 @@ both-true : (a b : Bool) → (a && b) ≡ true → (a ≡ true) × (b ≡ true)
 both-true true b e = (refl, e)
 both-true false b e = absurd (false≢true e)
 
-positive-parts : (dropped : Bool) (e : Edge) → nat_lt (cond dropped no_edge e).released (cond dropped no_edge e).given ≡ true → nat_lt e.released e.given ≡ true
+positive-parts : (dropped : Bool) (e : Edge) → is_positive (cond dropped no_edge e) ≡ true → is_positive e ≡ true
 positive-parts true e t = absurd (false≢true t)
 positive-parts false e t = t
 
-nothing-positive : (e : Edge) → e ≡ no_edge → nat_lt e.released e.given ≡ true → ⊥
-nothing-positive e is t = false≢true (ap (λ (x : Edge). nat_lt x.released x.given) (sym is) ∙ t)
+nothing-positive : (e : Edge) → e ≡ no_edge → is_positive e ≡ true → ⊥
+nothing-positive e is t = false≢true (ap is_positive (sym is) ∙ t)
 
 owns-there : (g : Graph) → ArePlaced g → (b a : Actor) → owns g b a ≡ true → has_pair g.edges.pairs b a ≡ true
 owns-there g placed b a owner =
@@ -176,8 +178,9 @@ pub owners-stop : (g : Graph) → ArePlaced g → (a : Actor) (owners : List Act
 owners-stop g placed a owners are cl f stands kept =
     let test : Actor → Bool = λ b. not (is_lost cl f b.node) && has_edge cl (is_lost cl f) f b a in
     let same : (b : Actor) → owns g b a ≡ test b = λ b.
-    ap (λ v. not (has_node (lost_in g) b.node) && nat_lt (cond v no_edge (edge_between g.edges b a)).released (cond v no_edge (edge_between g.edges b a)).given) kept
-    ∙ (λ i. not (has_node (lost-same cl f g stands i) b.node) && nat_lt (stands.counts.released b a i) (stands.counts.given b a i)) in
+    ap (λ v. not (has_node (lost_in g) b.node) && is_positive (cond v no_edge (edge_between g.edges b a))) kept
+    ∙ (λ i. not (has_node (lost-same cl f g stands i) b.node) && int_lt (pos 0) (stands.counts.count b a i))
+    ∙ ap (λ v. not (is_lost cl f b.node) && v) (positive-less _ (released_count cl f b a)) in
     let known : (b : Actor) → is_named g.shadows.names b ≡ true → IsAmong b (known_actors cl f) = λ b named. (stands.known b).0 ((among-decides g.shadows.names b).0 named) in
     rising-same IsActorBelow IsActorBelow-apart IsActorBelow-trans owners (filter test (known_actors cl f)) are.rising (IsRising-filter IsActorBelow test (known_actors cl f) (rising_actors-rise (flat_map named_by (flat_map (λ o. notice_facts (f o)) (nodes_below cl.nodes)))))
     (λ b h. (

@@ -238,9 +238,9 @@ pub shadow-there : (t : Shadows) (k : ℕ) → IsDistinct same_actor t.names →
 shadow-there t k distinct inside = ap (λ p. get_or t.shadows p blank) (key-place same_actor same_actor-decides t.names no_actor k distinct inside)
 
 -- the value of an edge is that of what is kept between the actors at its ends
-pub between-value : (g : Graph) (b a : Actor) (e : Edge) (r : ℤ) → edge_between g.edges b a ≡ e → r ≡ pos (cond (is_dropped g a) no_edge e).given -ℤ pos (cond (is_dropped g a) no_edge e).released → SFits w64 r → to_z w64 (of_z w64 r) ≡ pos (seen_edge g b a).given -ℤ pos (seen_edge g b a).released
+pub between-value : (g : Graph) (b a : Actor) (e : Edge) (r : ℤ) → edge_between g.edges b a ≡ e → r ≡ (cond (is_dropped g a) no_edge e).count → SFits w64 r → to_z w64 (of_z w64 r) ≡ (seen_edge g b a).count
 between-value g b a e r between is fits =
-    to_z-of_z w64 r fits ∙ is ∙ ap (λ x. pos (cond (is_dropped g a) no_edge x).given -ℤ pos (cond (is_dropped g a) no_edge x).released) (sym between)
+    to_z-of_z w64 r fits ∙ is ∙ ap (λ (x : Edge). (cond (is_dropped g a) no_edge x).count) (sym between)
 
 pub placed : (g : Graph) (room : ℕ) → AreKeyed g.shadows.names (record g.edges { places = room }) → length g.shadows.shadows ≡ length g.shadows.names → ArePlaced g
 placed g room keyed long = record {

@@ -52,20 +52,17 @@ module _ (cl : Cluster) (f : Fold) (g h : Graph) (stands : IsGraphOf cl f g) (st
       (stands.counts.flags a ∙ sym (stands'.counts.flags a))
       (dropped a)
 
-  given-same : (b a : Actor) → (edge_between g.edges b a).given ≡ (edge_between h.edges b a).given
-  given-same b a = stands.counts.given b a ∙ sym (stands'.counts.given b a)
-
-  released-same : (b a : Actor) → (edge_between g.edges b a).released ≡ (edge_between h.edges b a).released
-  released-same b a = stands.counts.released b a ∙ sym (stands'.counts.released b a)
+  count-same : (b a : Actor) → (edge_between g.edges b a).count ≡ (edge_between h.edges b a).count
+  count-same b a = stands.counts.count b a ∙ sym (stands'.counts.count b a)
 
   value-same : (b a : Actor) → edge_value g b a ≡ edge_value h b a
   value-same b a =
-      ap (λ v. pos (cond v no_edge (edge_between g.edges b a)).given -ℤ pos (cond v no_edge (edge_between g.edges b a)).released) (dropped a)
+      ap (λ v. (cond v no_edge (edge_between g.edges b a)).count) (dropped a)
       ∙ either (is_dropped h a)
     where
-      either : (v : Bool) → pos (cond v no_edge (edge_between g.edges b a)).given -ℤ pos (cond v no_edge (edge_between g.edges b a)).released ≡ pos (cond v no_edge (edge_between h.edges b a)).given -ℤ pos (cond v no_edge (edge_between h.edges b a)).released
+      either : (v : Bool) → (cond v no_edge (edge_between g.edges b a)).count ≡ (cond v no_edge (edge_between h.edges b a)).count
       either true = refl
-      either false = λ i. pos (given-same b a i) -ℤ pos (released-same b a i)
+      either false = count-same b a
 
   pub fold-same : AreSame g h
   fold-same = record {

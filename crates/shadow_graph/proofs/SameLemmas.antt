@@ -81,7 +81,7 @@ module _ (g h : Graph) (placed : ArePlaced g) (placed' : ArePlaced h) where
       either true w here there = read.edges b a here
       either false true here there = flipped-along g h b a (read'.edges b a there)
       either false false here there = record {
-        value = ap (λ (e : Edge). pos e.given -ℤ pos e.released) (apart-seen g placed b a here ∙ sym (apart-seen h placed' b a there));
+        value = ap (λ (e : Edge). e.count) (apart-seen g placed b a here ∙ sym (apart-seen h placed' b a there));
       }
 
   pub same-read : lost_in g ≡ lost_in h → IsReadIn g h → IsReadIn h g → AreSame g h

@@ -57,8 +57,7 @@ dropped-stands cl f s t e m n log finals cut actor drops stands = record {
     told = λ a. kept-at (λ x. x.told) (λ x. refl) s t actor drops a ∙ stands.counts.told a;
     admitted = λ a. kept-at (λ x. x.admitted) (λ x. refl) s t actor drops a ∙ stands.counts.admitted a;
     flags = λ a. kept-at (λ x. x.flags) (λ x. refl) s t actor drops a ∙ stands.counts.flags a;
-    given = stands.counts.given;
-    released = stands.counts.released;
+    count = stands.counts.count;
   };
   log = stands.log;
   links = stands.links;

@@ -10,7 +10,7 @@ use Rattle.shadow_table.specs.Shadows.{Shadows, shadow_at}
 use Rattle.undo_log.specs.Told.{admitted_from, told_by}
 use Rattle.undo_log.specs.declared.corrections.Correction.{Correction}
 use Rattle.shadow_rows.specs.Rows.{IsLogCovered}
-use Rattle.shadow_rows.specs.Pairs.{edge_between}
+use Rattle.shadow_rows.specs.Pairs.{IsWithin, edge_between}
 use Rattle.shadow_rows.specs.Tabled.{AreTabled}
 use Rattle.crgc_ids.specs.declared.limits.TheConstants.{MOST_EVENTS}
 
@@ -19,8 +19,7 @@ pub record AreWithin (folded lost : ℕ) (shadows : Shadows) (edges : Edges) (lo
   pub received : (a : Actor) → (shadow_at shadows a).received ≤ folded * 4294967296
   pub told : (a : Actor) → (shadow_at shadows a).told ≤ folded * 4294967296
   pub admitted : (a : Actor) → (shadow_at shadows a).admitted ≤ folded * 4294967296 + lost * 72057594037927936
-  pub given : (b a : Actor) → (edge_between edges b a).given ≤ folded * 4294967296 + lost * 72057594037927936
-  pub released : (b a : Actor) → (edge_between edges b a).released ≤ folded * 4294967296
+  pub count : (b a : Actor) → IsWithin (folded * 4294967296 + lost * 72057594037927936) (edge_between edges b a).count
   pub log_told : (n : ℕ) (owner : Option Actor) (target : Actor) → told_by log n owner target ≤ folded * 4294967296
   pub log_admitted : (n : ℕ) (owner : Option Actor) (target : Actor) → admitted_from log n owner target ≤ folded * 4294967296
 

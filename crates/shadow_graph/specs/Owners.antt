@@ -1,17 +1,18 @@
 -- The actors that hold references to an actor, by what is folded.
-use Rattle.std.specs.Prelude.{◌≡◌, ◌&&◌, ◌↔◌, not, ℕ, Bool, true, List, map, nat_lt}
+use Rattle.std.specs.Prelude.{◌≡◌, ◌&&◌, ◌↔◌, not, ℕ, Bool, true, List, map}
 use Rattle.std.specs.List.{filter}
 use Rattle.crgc_ids.specs.Actor.{Actor, IsActorBelow}
 use Rattle.crgc_ids.specs.Members.{IsAmong}
 use Rattle.crgc_ids.specs.Nodes.{has_node}
 use Rattle.crgc_ids.specs.Rising.{IsRising}
+use Rattle.edge_table.specs.Table.{is_positive}
 use Rattle.shadow_graph.specs.Graph.{Graph, lost_in}
 use Rattle.shadow_graph.specs.Places.{actor_of}
 use Rattle.shadow_graph.specs.Seen.{seen_edge}
 
 -- whether b, whose node is not lost, holds references to a
 abbrev pub owns : Graph → Actor → Actor → Bool
-owns g b a = let e = seen_edge g b a in not (has_node (lost_in g) b.node) && nat_lt e.released e.given
+owns g b a = not (has_node (lost_in g) b.node) && is_positive (seen_edge g b a)
 
 -- the actors at these places that hold references to a
 abbrev pub owners_at : Graph → Actor → List ℕ → List Actor

@@ -1,5 +1,5 @@
 -- When readers see the same in two graphs, whatever the order in which each named its actors.
-use Rattle.std.specs.Prelude.{◌≡◌, ◌-ℤ◌, ℤ, pos, true}
+use Rattle.std.specs.Prelude.{◌≡◌, ℤ, true}
 use Rattle.crgc_ids.specs.Actor.{Actor}
 use Rattle.shadow_graph.specs.Graph.{Graph, lost_in}
 use Rattle.shadow_rows.specs.Pairs.{has_pair}
@@ -8,7 +8,7 @@ use Rattle.shadow_table.specs.Shadows.{is_named}
 
 -- the references to the target that the owner was given, less those that it released, as readers see them
 abbrev pub edge_value : Graph → Actor → Actor → ℤ
-edge_value g owner target = let e = seen_edge g owner target in pos e.given -ℤ pos e.released
+edge_value g owner target = (seen_edge g owner target).count
 
 -- readers see the same of the actor
 pub record AgreeOn (g h : Graph) (a : Actor) : Type 0 where

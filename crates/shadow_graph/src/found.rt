@@ -51,14 +51,13 @@ pub fn blank() -> Shadow
     }
 }
 
-/// An edge along which nothing is given and released.
-pub fn no_edge() -> Edge
+/// An edge with count 0.
+fn no_edge() -> Edge
     ensures { result ≡ no_edge }
 {
     Edge {
         owner: 0,
         target: 0,
-        given: 0,
-        released: 0,
+        count: 0,
     }
 }

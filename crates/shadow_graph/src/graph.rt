@@ -19,9 +19,9 @@ mod known;
 mod owners;
 mod same;
 
-use crate::found::{blank, edge_between, no_edge, shadow_of};
+use crate::found::{blank, edge_between, shadow_of};
 use crgc_ids::{ActorId, Cut, NoMemory, NodeId, NodeSet};
-use edge_table::{Edge, EdgeTable};
+use edge_table::EdgeTable;
 use history_model::{Bulletin, Delta, Window};
 use membership::Finals;
 use shadow_rows::{add_delta, add_window, settle_lost};
@@ -191,10 +191,12 @@ impl ShadowGraph {
     /// The references to the target that the owner was given, less those that it released; 0 where the target was dropped.
     /// At most 2 * 8 looks at lists, and where that does not tell, time logarithmic in their number.
     pub fn edge(&self, owner: ActorId, target: ActorId) -> i64
-        ensures { let e = seen_edge self.now owner target in result ≡ pos e.given -ℤ pos e.released }
+        ensures { result ≡ (seen_edge self.now owner target).count }
     {
-        let edge = self.seen_edge(owner, target);
-        edge.given as i64 - edge.released as i64
+        if shadow_of(&self.shadows, target).dropped {
+            return 0;
+        }
+        edge_between(&self.shadows, &self.edges, owner, target).count
     }
 
     /// The nodes that are lost by the Finals that are folded.
@@ -216,18 +218,6 @@ impl ShadowGraph {
             return blank();
         }
         shadow
-    }
-
-    /// What is kept of the owner's references to the target; nothing where the target was dropped or no row named the pair.
-    fn seen_edge(&self, owner: ActorId, target: ActorId) -> Edge
-        ensures value { result ≡ seen_edge self.now owner target }
-        ensures given { result.given ≤ 4611686018427387904 }
-        ensures released { result.released ≤ 4611686018427387904 }
-    {
-        if shadow_of(&self.shadows, target).dropped {
-            return no_edge();
-        }
-        edge_between(&self.shadows, &self.edges, owner, target)
     }
 
     /// The Delta is taken in. After `NoMemory` all is as before. Amortized time in proportion to n log n for n

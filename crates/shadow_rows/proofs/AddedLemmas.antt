@@ -1,5 +1,6 @@
 -- What is counted after the actors and pairs are there.
 use Rattle.std.proofs.Common.{◌≡◌, ◌≤◌, ℕ, Bool, List, [], sym, ◌∙◌, ap, subst, arith, append-nil, length}
+use Rattle.std.proofs.lemmas.Int.{ints}
 use Rattle.crgc_ids.specs.Actor.{Actor}
 use Rattle.history_model.specs.Ledgers.{Ledger}
 use Rattle.edge_table.specs.Table.{Edges}
@@ -7,7 +8,7 @@ use Rattle.shadow_table.specs.Shadows.{ExtendsShadows, Shadows}
 use Rattle.shadow_table.specs.declared.table.Shadow.{Shadow}
 use Rattle.undo_log.specs.declared.corrections.Correction.{Correction}
 use Rattle.shadow_rows.specs.Rows.{AddsRows, AreSmall, IsLogCovered, counted_shadow}
-use Rattle.shadow_rows.specs.Pairs.{KeepsEnds}
+use Rattle.shadow_rows.specs.Pairs.{IsWithin, KeepsEnds}
 use Rattle.shadow_rows.specs.Tabled.{AreTabled, ExtendsEdges}
 use Rattle.shadow_rows.proofs.GrowLemmas.{tabled-named}
 
@@ -16,15 +17,13 @@ small-grown s t e f grown more small = record {
   received = λ a. subst (λ (x : Shadow). x.received ≤ 4611686018427387904) (sym (grown.same a)) (small.received a);
   told = λ a. subst (λ (x : Shadow). x.told ≤ 4611686018427387904) (sym (grown.same a)) (small.told a);
   admitted = λ a. subst (λ (x : Shadow). x.admitted ≤ 4611686018427387904) (sym (grown.same a)) (small.admitted a);
-  given = λ b a. subst (λ n. n ≤ 4611686018427387904) (sym (more.given b a)) (small.given b a);
-  released = λ b a. subst (λ n. n ≤ 4611686018427387904) (sym (more.released b a)) (small.released b a);
+  count = λ b a. subst (IsWithin 4611686018427387904) (sym (more.count b a)) (small.count b a);
 }
 
 pub adds-grown : (node : ℕ) (counts : Bool) (own link : Ledger) (s t u : Shadows) (e f g : Edges) → ExtendsShadows s t → ExtendsEdges e f → AddsRows node counts own link t u f g → AddsRows node counts own link s u e g
 adds-grown node counts own link s t u e f g grown more adds = record {
   shadows = λ a. adds.shadows a ∙ ap (counted_shadow node counts own link a) (grown.same a);
-  given = λ b a. (let new = adds.given b a in let old = more.given b a in omega (arith, new, old));
-  released = λ b a. (let new = adds.released b a in let old = more.released b a in omega (arith, new, old));
+  count = λ b a. (let new = adds.count b a in let old = more.count b a in omega (arith, ints, new, old));
 }
 
 pub tabled-counted : (names names' : List Actor) (e f : Edges) → names' ≡ names → KeepsEnds e f → AreTabled names e → AreTabled names' f

@@ -1,5 +1,5 @@
 -- Edges that are added to others, or cut back to the first ones.
-use Rattle.std.proofs.Common.{◌≡◌, ◌+◌, ◌<◌, ◌≤◌, ◌||◌, ℕ, zero, suc, Bool, true, false, cond, not, ltb, List, [], ◌∷◌, ◌++◌, Option, Some, None, length, get_or, take, position, refl, sym, ◌∙◌, ap, subst, inl, inr, arith, rules, tests, append-nil, append_assoc}
+use Rattle.std.proofs.Common.{◌≡◌, ◌+◌, ◌<◌, ◌≤◌, ◌||◌, ℕ, zero, suc, Bool, true, false, cond, not, ltb, List, [], ◌∷◌, ◌++◌, Option, Some, None, length, get_or, pos, take, position, refl, sym, ◌∙◌, ap, subst, inl, inr, arith, rules, tests, append-nil, append_assoc}
 use Rattle.std.proofs.lemmas.Bool.{cases_eq, false≢true}
 use Rattle.std.proofs.lemmas.List.{get_or_append_left, length-append}
 use Rattle.std.proofs.lemmas.List.Folds.{list_any-append}
@@ -20,7 +20,7 @@ use Rattle.shadow_rows.proofs.PairLemmas.{same_pair-decides}
 -- ---- edges that go on
 
 pub edges-extend-self : (t : Edges) → ExtendsEdges t t
-edges-extend-self t = record { more = []; more_edges = []; pairs = sym (append-nil t.pairs); edges = sym (append-nil t.edges); given = λ b a. refl; released = λ b a. refl }
+edges-extend-self t = record { more = []; more_edges = []; pairs = sym (append-nil t.pairs); edges = sym (append-nil t.edges); count = λ b a. refl }
 
 pub edges-extend-more : (t u v : Edges) → ExtendsEdges t u → ExtendsEdges u v → ExtendsEdges t v
 edges-extend-more t u v first then = record {
@@ -28,8 +28,7 @@ edges-extend-more t u v first then = record {
   more_edges = first.more_edges ++ then.more_edges;
   pairs = then.pairs ∙ ap (λ ps. ps ++ then.more) first.pairs ∙ append_assoc t.pairs first.more then.more;
   edges = then.edges ∙ ap (λ es. es ++ then.more_edges) first.edges ∙ append_assoc t.edges first.more_edges then.more_edges;
-  given = λ b a. then.given b a ∙ first.given b a;
-  released = λ b a. then.released b a ∙ first.released b a;
+  count = λ b a. then.count b a ∙ first.count b a;
 }
 
 pub edges-same : (t u : Edges) → u.pairs ≡ t.pairs → u.edges ≡ t.edges → ExtendsEdges t u
@@ -38,21 +37,18 @@ edges-same t u pairs edges = record {
   more_edges = [];
   pairs = pairs ∙ sym (append-nil t.pairs);
   edges = edges ∙ sym (append-nil t.edges);
-  given = λ b a. (λ i. (get_or (edges i) (position_or_len (same_pair (b, a)) (pairs i)) no_edge).given);
-  released = λ b a. (λ i. (get_or (edges i) (position_or_len (same_pair (b, a)) (pairs i)) no_edge).released);
+  count = λ b a. (λ i. (get_or (edges i) (position_or_len (same_pair (b, a)) (pairs i)) no_edge).count);
 }
 
--- an edge that is added has nothing given and released
-pub edge-added : (t u : Edges) (owner target : Actor) (e : Edge) → length t.edges ≡ length t.pairs → e.given ≡ 0 → e.released ≡ 0 → u ≡ record t { pairs = t.pairs ++ (owner, target) ∷ []; edges = t.edges ++ e ∷ [] } → ExtendsEdges t u
-edge-added t u owner target e long none none' is = record {
+-- an edge that is added has count 0
+pub edge-added : (t u : Edges) (owner target : Actor) (e : Edge) → length t.edges ≡ length t.pairs → e.count ≡ pos 0 → u ≡ record t { pairs = t.pairs ++ (owner, target) ∷ []; edges = t.edges ++ e ∷ [] } → ExtendsEdges t u
+edge-added t u owner target e long none is = record {
   more = (owner, target) ∷ [];
   more_edges = e ∷ [];
   pairs = ap (λ (x : Edges). x.pairs) is;
   edges = ap (λ (x : Edges). x.edges) is;
-  given = λ b a. ap (λ (x : Edges). (get_or x.edges (position_or_len (same_pair (b, a)) x.pairs) no_edge).given) is
-      ∙ found-pushed same_pair same_pair-decides no_edge (λ x. x.given) t.pairs t.edges (owner, target) e none long (b, a);
-  released = λ b a. ap (λ (x : Edges). (get_or x.edges (position_or_len (same_pair (b, a)) x.pairs) no_edge).released) is
-      ∙ found-pushed same_pair same_pair-decides no_edge (λ x. x.released) t.pairs t.edges (owner, target) e none' long (b, a);
+  count = λ b a. ap (λ (x : Edges). (get_or x.edges (position_or_len (same_pair (b, a)) x.pairs) no_edge).count) is
+      ∙ found-pushed same_pair same_pair-decides no_edge (λ x. x.count) t.pairs t.edges (owner, target) e none long (b, a);
 }
 
 -- the new edge's ends are the places of its actors

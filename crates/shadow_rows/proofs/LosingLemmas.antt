@@ -1,8 +1,10 @@
 -- More nodes are lost, one after another.
-use Rattle.std.proofs.Common.{◌≡◌, ◌≢◌, ◌+◌, ◌<◌, ◌≤◌, ◌&&◌, ◌||◌, ◌==◌, ℕ, Bool, true, false, not, ltb, List, Option, Some, None, length, get_or, refl, sym, ◌∙◌, ap, subst, inl, inr, arith}
+use Rattle.std.proofs.Common.{◌≡◌, ◌≢◌, ◌+◌, ◌<◌, ◌≤◌, ◌&&◌, ◌||◌, ◌==◌, ℕ, Bool, true, false, not, ltb, List, Option, Some, None, length, get_or, take, refl, sym, ◌∙◌, ap, subst, inl, inr, arith}
 use Rattle.std.proofs.lemmas.Bool.{cases_eq, eq-eqb, false≢true, lt-ltb, ltb-true, ne_eqb}
+use Rattle.std.proofs.lemmas.Int.{ints}
 use Rattle.std.proofs.lemmas.List.FromFn.{get_or-range_with_len}
-use Rattle.std.proofs.lemmas.List.Sums.{count_by_more_no, count_by_more_yes}
+use Rattle.std.proofs.lemmas.List.{length-take}
+use Rattle.std.proofs.lemmas.List.Sums.{count_by-le-length, count_by_more_no, count_by_more_yes}
 use Rattle.crgc_ids.specs.Actor.{Actor}
 use Rattle.crgc_ids.specs.Members.{IsAmong, IsPart}
 use Rattle.crgc_ids.specs.Nodes.{has_node, nodes_below}
@@ -13,11 +15,10 @@ use Rattle.history_model.specs.MoreFolded.{IsLostToo}
 use Rattle.edge_table.specs.Table.{Edges}
 use Rattle.shadow_table.specs.Shadows.{Shadows}
 use Rattle.shadow_table.specs.declared.table.Shadow.{Shadow}
-use Rattle.undo_log.specs.Told.{admitted_from}
+use Rattle.undo_log.specs.Told.{admitted_from, told_by}
 use Rattle.undo_log.specs.declared.corrections.Correction.{Correction}
 use Rattle.shadow_rows.specs.Rows.{Settles}
 use Rattle.shadow_rows.specs.Losing.{Corrects, gain_before, is_newly_lost, lost_so_far}
-use Rattle.shadow_rows.specs.Pairs.{KeepsEnds}
 use Rattle.shadow_rows.specs.Folded.{CountsFold, LogsFold}
 use Rattle.shadow_rows.proofs.StandsLemmas.{counts-moved}
 
@@ -137,11 +138,18 @@ last-counts cl f before after s d few part below counts = lost-alike cl f (lost_
 
 -- ---- how much changes
 
-pub corrects-none : (before after : List ℕ) (s : Shadows) (e : Edges) → Corrects (gain_before before after 0) s s e e
-corrects-none before after s e = record { received = λ a. refl; told = λ a. omega arith; admitted = λ a. omega arith; given = λ b a. omega arith; released = λ b a. refl; dropped = λ a. refl }
+-- no more than 16 nodes are lost
+pub gain-few : (before after : List ℕ) (n : ℕ) → gain_before before after n ≤ 16
+gain-few before after n =
+    let few = count_by-le-length (is_newly_lost before after) (take n (nodes_below 16)) in
+    let first = length-take n (nodes_below 16) in
+    omega (arith, few, first)
 
-pub turn-corrects : (log : List (List Correction)) (before after : List ℕ) (i : ℕ) (r s t : Shadows) (c d e : Edges) → i < 16 → ((n : ℕ) (owner : Option Actor) (target : Actor) → admitted_from log n owner target ≤ 72057594037927936) → IsTurn log before after i s t d e → Corrects (gain_before before after i) r s c d → Corrects (gain_before before after (i + 1)) r t c e
-turn-corrects log before after i r s t c d e inside small turn so_far =
+pub corrects-none : (before after : List ℕ) (s : Shadows) (e : Edges) → Corrects (gain_before before after 0) s s e e
+corrects-none before after s e = record { received = λ a. refl; told = λ a. omega arith; admitted = λ a. omega arith; count = λ b a. (omega (arith, ints), omega (arith, ints)); dropped = λ a. refl }
+
+pub turn-corrects : (log : List (List Correction)) (before after : List ℕ) (i : ℕ) (r s t : Shadows) (c d e : Edges) → i < 16 → ((n : ℕ) (owner : Option Actor) (target : Actor) → told_by log n owner target ≤ 72057594037927936) → ((n : ℕ) (owner : Option Actor) (target : Actor) → admitted_from log n owner target ≤ 72057594037927936) → IsTurn log before after i s t d e → Corrects (gain_before before after i) r s c d → Corrects (gain_before before after (i + 1)) r t c e
+turn-corrects log before after i r s t c d e inside small_told small turn so_far =
     let at : get_or (nodes_below 16) i 0 ≡ i = get_or-range_with_len 0 16 i 0 inside ∙ (let e : 0 + i ≡ i = omega arith in e) in
     let long : i < length (nodes_below 16) = inside in
     let newly : Bool = is_newly_lost before after i in
@@ -175,26 +183,13 @@ turn-corrects log before after i r s t c d e inside small turn so_far =
           let one = small i None a in
           omega (arith, new, old, one, more)
           );
-      given = λ b a. (
-          let new = moves.given b a in
-          let old = so_far.given b a in
-          let one = small i (Some b) a in
-          omega (arith, new, old, one, more)
+      count = λ b a. (
+          let new = moves.count b a in
+          let low = (so_far.count b a).0 in
+          let high = (so_far.count b a).1 in
+          let taken = small_told i (Some b) a in
+          let put_in = small i (Some b) a in
+          (omega (arith, ints, new, low, taken, more), omega (arith, ints, new, high, put_in, more))
           );
-      released = λ b a. moves.released b a ∙ so_far.released b a;
       dropped = λ a. ap (λ (x : Shadow). x.dropped) (moves.shadows a) ∙ so_far.dropped a;
     }
-
--- ---- ends
-
-pub keeps-self : (e : Edges) → KeepsEnds e e
-keeps-self e = record { pairs = refl; places = refl; long = refl; owner = λ k. refl; target = λ k. refl }
-
-pub keeps-more : (t u v : Edges) → KeepsEnds t u → KeepsEnds u v → KeepsEnds t v
-keeps-more t u v first then = record {
-  pairs = then.pairs ∙ first.pairs;
-  places = then.places ∙ first.places;
-  long = then.long ∙ first.long;
-  owner = λ k. then.owner k ∙ first.owner k;
-  target = λ k. then.target k ∙ first.target k;
-}

@@ -1,6 +1,7 @@
 -- What one more bulletin and one more lost node change in the counts of a graph that stands for a fold.
 use Rattle.std.proofs.Common.{◌≡◌, ◌+◌, ◌<◌, ◌==◌, ℕ, Bool, true, false, cond, not, List, Option, Some, None, refl, sym, ◌∙◌, ap, inl, inr, arith}
 use Rattle.std.proofs.lemmas.Bool.{cases_eq, eq-eqb, ne_eqb}
+use Rattle.std.proofs.lemmas.Int.{ints}
 use Rattle.std.specs.Option.{option_or}
 use Rattle.history_model.specs.declared.records.Bulletin.{Bulletin}
 use Rattle.history_model.specs.Cluster.{Cluster}
@@ -50,16 +51,17 @@ counts-added cl lost f o b n shadows shadows' edges edges' inside tells before a
           ap (λ (s : Shadow). s.flags) (adds.shadows a)
           ∙ (λ i. cond (a.node == o) (option_or (flag_pair (own.flags a i)) (before.flags a i)) (before.flags a i))
           ∙ pair-or (a.node == o) _ (own_flags f a) ∙ ap flag_pair (sym ((knows-notice cl o n f inside).flags a));
-      given = λ c a. (
-          let new = adds.given c a in
-          let old = before.given c a in
+      count = λ c a. (
+          let new = adds.count c a in
+          let old = before.count c a in
           let made = law.created c a in
           let brought = law.carried c a in
           let sends = flip (lost o) (pair_total c a (own_rows b).created) 0 ∙ ap (cond (lost o) 0) (own.created c a) in
           let links = link.created c a in
-          omega (arith, new, old, made, brought, sends, links)
+          let released = own.released c a in
+          let more = law.released c a in
+          omega (arith, ints, new, old, made, brought, sends, links, released, more)
           );
-      released = λ c a. adds.released c a ∙ (λ i. before.released c a i + own.released c a i) ∙ sym (law.released c a);
     }
 
 pub logs-added : (cl : Cluster) (f : Fold) (o : ℕ) (b : Bulletin) (n : Notice) (log log' : List (List Correction)) → o < cl.nodes → Tells o b n → LogsFold cl f log → AddsLog o b log log' → LogsFold cl (with_notice o n f) log'
@@ -110,14 +112,13 @@ counts-moved cl s lost more f log shadows shadows' edges edges' inside too logs 
           omega (arith, new, old, rose, noted)
           );
       flags = λ a. ap (λ (s : Shadow). s.flags) (moves.shadows a) ∙ before.flags a;
-      given = λ b a. (
-          let new = moves.given b a in
-          let old = before.given b a in
+      count = λ b a. (
+          let new = moves.count b a in
+          let old = before.count b a in
           let fell = law.created b a in
           let rose = law.carried b a in
           let noted = logs.created s inside b a in
           let brought = logs.carried s inside b a in
-          omega (arith, new, old, fell, rose, noted, brought)
+          omega (arith, ints, new, old, fell, rose, noted, brought)
           );
-      released = λ b a. moves.released b a ∙ before.released b a;
     }

@@ -1,6 +1,7 @@
 -- Rows leave as it was whatever they do not touch.
 use Rattle.std.proofs.Common.{◌≡◌, ◌==◌, ◌+◌, ◌&&◌, ◌||◌, ℕ, Bool, true, false, cond, List, [], ◌∷◌, Option, Some, None, refl, sym, ◌∙◌, ap, arith}
 use Rattle.std.proofs.lemmas.Bool.{false≢true}
+use Rattle.std.proofs.lemmas.Int.{ints}
 use Rattle.std.proofs.lemmas.List.Sums.{sum_by-cons}
 use Rattle.std.specs.List.{list_any, sum_by}
 use Rattle.std.specs.Option.{option_or, unwrap_or}
@@ -85,11 +86,11 @@ leaves-untouched node counts own link s t d e a no_own no_link adds =
     let same : counted_shadow node counts own link a x ≡ x = λ i. record { received = received i; told = told i; admitted = admitted i; flags = flags i; dropped = x.dropped } in
     record {
       shadow = adds.shadows a ∙ same;
-      given = λ b. (
+      count = λ b. (
           let made = nothing-told counts _ (pair-none b a own.created mine.created) in
           let carried = pair-none b a link.created other.created in
-          let is = adds.given b a in
-          omega (arith, is, made, carried)
+          let released = pair-none b a own.released mine.released in
+          let is = adds.count b a in
+          omega (arith, ints, is, made, carried, released)
           );
-      released = λ b. adds.released b a ∙ more-none _ _ (pair-none b a own.released mine.released);
     }

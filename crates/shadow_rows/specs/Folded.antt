@@ -1,5 +1,5 @@
 -- How counts and the log stand for a fold: total and actor by actor, with 0 where nothing is known.
-use Rattle.std.specs.Prelude.{◌≡◌, ◌+◌, ◌<◌, ℕ, Bool, List, Some, None}
+use Rattle.std.specs.Prelude.{◌≡◌, ◌+◌, ◌<◌, ◌-ℤ◌, ℕ, Bool, List, Some, None, pos}
 use Rattle.crgc_ids.specs.Actor.{Actor}
 use Rattle.history_model.specs.Cluster.{Cluster}
 use Rattle.history_model.specs.Tally.{tally}
@@ -19,8 +19,8 @@ pub record CountsFold (cl : Cluster) (lost : ℕ → Bool) (f : Fold) (shadows :
   pub told : (a : Actor) → (shadow_at shadows a).told ≡ told_count cl lost f a
   pub admitted : (a : Actor) → (shadow_at shadows a).admitted ≡ admitted_count cl lost f a
   pub flags : (a : Actor) → (shadow_at shadows a).flags ≡ flag_pair (own_flags f a)
-  pub given : (b a : Actor) → (edge_between edges b a).given ≡ created_count cl lost f b a + carried_count cl lost f b a
-  pub released : (b a : Actor) → (edge_between edges b a).released ≡ released_count cl f b a
+  pub count : (b a : Actor) → (edge_between edges b a).count
+      ≡ pos (created_count cl lost f b a + carried_count cl lost f b a) -ℤ pos (released_count cl f b a)
 
 -- the log has, for each node of the cluster, what it told and what others admitted from it
 pub record LogsFold (cl : Cluster) (f : Fold) (log : List (List Correction)) : Type 0 where

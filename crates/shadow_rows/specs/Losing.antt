@@ -1,5 +1,5 @@
 -- What becomes of the counts where more nodes are lost than before.
-use Rattle.std.specs.Prelude.{◌≡◌, ◌+◌, ◌*◌, ◌<◌, ◌≤◌, ◌&&◌, ◌||◌, not, ℕ, Bool, true, List, count_by, nat_lt, take}
+use Rattle.std.specs.Prelude.{◌≡◌, ◌+◌, ◌*◌, ◌<◌, ◌≤◌, ◌-ℤ◌, ◌&&◌, ◌||◌, not, ℕ, Bool, true, List, count_by, nat_lt, take}
 use Rattle.crgc_ids.specs.Actor.{Actor}
 use Rattle.crgc_ids.specs.Members.{IsPart}
 use Rattle.crgc_ids.specs.Nodes.{has_node, nodes_below}
@@ -8,7 +8,7 @@ use Rattle.history_model.specs.Folds.{Fold}
 use Rattle.edge_table.specs.Table.{Edges}
 use Rattle.shadow_table.specs.Shadows.{Shadows, shadow_at}
 use Rattle.undo_log.specs.declared.corrections.Correction.{Correction}
-use Rattle.shadow_rows.specs.Pairs.{edge_between}
+use Rattle.shadow_rows.specs.Pairs.{IsWithin, edge_between}
 use Rattle.shadow_rows.specs.Folded.{CountsFold, LogsFold}
 
 -- the node is lost now and was not before
@@ -35,6 +35,5 @@ pub record Corrects (gain : ℕ) (s t : Shadows) (e f : Edges) : Type 0 where
   pub received : (a : Actor) → (shadow_at t a).received ≡ (shadow_at s a).received
   pub told : (a : Actor) → (shadow_at t a).told ≤ (shadow_at s a).told
   pub admitted : (a : Actor) → (shadow_at t a).admitted ≤ (shadow_at s a).admitted + gain * 72057594037927936
-  pub given : (b a : Actor) → (edge_between f b a).given ≤ (edge_between e b a).given + gain * 72057594037927936
-  pub released : (b a : Actor) → (edge_between f b a).released ≡ (edge_between e b a).released
+  pub count : (b a : Actor) → IsWithin (gain * 72057594037927936) ((edge_between f b a).count -ℤ (edge_between e b a).count)
   pub dropped : (a : Actor) → (shadow_at t a).dropped ≡ (shadow_at s a).dropped

@@ -1,5 +1,5 @@
 -- Edges by the pair of their owner and their target.
-use Rattle.std.specs.Prelude.{◌≡◌, ◌+◌, ◌-◌, if◌then◌else◌, ℕ, Bool, List, length, slice_index_or}
+use Rattle.std.specs.Prelude.{◌≡◌, ◌≤ℤ◌, if◌then◌else◌, ℕ, ℤ, Bool, List, length, neg_ℤ, pos, slice_index_or}
 use Rattle.std.specs.List.{list_any, position_or_len}
 use Rattle.crgc_ids.specs.Actor.{Actor}
 use Rattle.edge_table.specs.Table.{Edges, edge_at, no_edge, same_pair}
@@ -13,16 +13,9 @@ has_pair pairs owner target = list_any (same_pair (owner, target)) pairs
 abbrev pub edge_between : Edges → Actor → Actor → Edge
 edge_between t owner target = slice_index_or t.edges (position_or_len (same_pair (owner, target)) t.pairs) no_edge
 
--- ---- what a row changes of an edge
-
-abbrev pub with_given : ℕ → Edge → Edge
-with_given n e = record e { given = e.given + n }
-
-abbrev pub without_given : ℕ → Edge → Edge
-without_given n e = record e { given = e.given - n }
-
-abbrev pub with_released : ℕ → Edge → Edge
-with_released n e = record e { released = e.released + n }
+-- a count that is no further from 0 than this
+abbrev pub IsWithin : ℕ → ℤ → Type 0
+IsWithin n count = (neg_ℤ (pos n) ≤ℤ count) × (count ≤ℤ pos n)
 
 -- ---- what a call changes
 

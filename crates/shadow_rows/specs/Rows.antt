@@ -1,5 +1,5 @@
 -- What rows add to shadows, edges and the log, what a lost node takes back, and what is kept of the parts.
-use Rattle.std.specs.Prelude.{◌≡◌, ◌==◌, ◌+◌, ◌-◌, ◌<◌, ◌≤◌, ◌||◌, if◌then◌else◌, ℕ, Bool, List, Option, Some, None}
+use Rattle.std.specs.Prelude.{◌≡◌, ◌==◌, ◌+◌, ◌<◌, ◌≤◌, ◌+ℤ◌, ◌-ℤ◌, ◌||◌, if◌then◌else◌, ℕ, Bool, List, Option, Some, None, pos}
 use Rattle.std.specs.List.{list_any}
 use Rattle.std.specs.Option.{option_or}
 use Rattle.crgc_ids.specs.Actor.{Actor, same_actor}
@@ -12,7 +12,7 @@ use Rattle.shadow_table.specs.declared.table.Shadow.{Shadow}
 use Rattle.undo_log.specs.Noted.{noted_count}
 use Rattle.undo_log.specs.Told.{admitted_from, told_by}
 use Rattle.undo_log.specs.declared.corrections.Correction.{Correction}
-use Rattle.shadow_rows.specs.Pairs.{edge_between}
+use Rattle.shadow_rows.specs.Pairs.{IsWithin, edge_between}
 use Rattle.shadow_rows.specs.Settled.{IsCovered}
 
 -- ---- what rows add
@@ -33,9 +33,9 @@ counted_shadow node counts own link a s = record s {
 -- the counts with these rows; whether the sends and pairs of the node's own rows count is told
 pub record AddsRows (node : ℕ) (counts : Bool) (own link : Ledger) (old new : Shadows) (was now : Edges) : Type 0 where
   pub shadows : (a : Actor) → shadow_at new a ≡ counted_shadow node counts own link a (shadow_at old a)
-  pub given : (b a : Actor) → (edge_between now b a).given
-      ≡ (edge_between was b a).given + ((if counts then pair_total b a own.created else 0) + pair_total b a link.created)
-  pub released : (b a : Actor) → (edge_between now b a).released ≡ (edge_between was b a).released + pair_total b a own.released
+  pub count : (b a : Actor) → (edge_between now b a).count
+      ≡ ((edge_between was b a).count +ℤ pos ((if counts then pair_total b a own.created else 0) + pair_total b a link.created))
+      -ℤ pos (pair_total b a own.released)
 
 -- the log with the bulletin: what its node told and what others admitted from each node grow by its rows
 pub record AddsLog (node : ℕ) (b : Bulletin) (log log' : List (List Correction)) : Type 0 where
@@ -48,9 +48,8 @@ pub record AddsLog (node : ℕ) (b : Bulletin) (log log' : List (List Correction
 pub record Settles (node : ℕ) (log : List (List Correction)) (old new : Shadows) (was now : Edges) : Type 0 where
   pub shadows : (a : Actor) → shadow_at new a
       ≡ with_admitted (admitted_from log node None a) (without_told (told_by log node None a) (shadow_at old a))
-  pub given : (b a : Actor) → (edge_between now b a).given
-      ≡ ((edge_between was b a).given - told_by log node (Some b) a) + admitted_from log node (Some b) a
-  pub released : (b a : Actor) → (edge_between now b a).released ≡ (edge_between was b a).released
+  pub count : (b a : Actor) → (edge_between now b a).count
+      ≡ ((edge_between was b a).count -ℤ pos (told_by log node (Some b) a)) +ℤ pos (admitted_from log node (Some b) a)
 
 -- ---- what the parts keep
 
@@ -59,8 +58,7 @@ pub record AreSmall (shadows : Shadows) (edges : Edges) : Type 0 where
   pub received : (a : Actor) → (shadow_at shadows a).received ≤ 4611686018427387904
   pub told : (a : Actor) → (shadow_at shadows a).told ≤ 4611686018427387904
   pub admitted : (a : Actor) → (shadow_at shadows a).admitted ≤ 4611686018427387904
-  pub given : (b a : Actor) → (edge_between edges b a).given ≤ 4611686018427387904
-  pub released : (b a : Actor) → (edge_between edges b a).released ≤ 4611686018427387904
+  pub count : (b a : Actor) → IsWithin 4611686018427387904 (edge_between edges b a).count
 
 -- what the log counts is there
 abbrev pub IsLogCovered : Shadows → Edges → List (List Correction) → Type 0

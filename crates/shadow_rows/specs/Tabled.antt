@@ -26,14 +26,13 @@ pub record AreTabled (names : List Actor) (edges : Edges) : Type 0 where
   pub owner : (k : ℕ) → k < length edges.pairs → (edge_at edges k).owner ≡ place_in names (pair_at edges.pairs k).0
   pub target : (k : ℕ) → k < length edges.pairs → (edge_at edges k).target ≡ place_in names (pair_at edges.pairs k).1
 
--- edges that begin with others, and have more along which nothing is given and released
+-- edges that begin with others, and have more of which each has count 0
 pub record ExtendsEdges (old new : Edges) : Type 0 where
   pub more : List (Actor × Actor)
   pub more_edges : List Edge
   pub pairs : new.pairs ≡ old.pairs ++ more
   pub edges : new.edges ≡ old.edges ++ more_edges
-  pub given : (b a : Actor) → (edge_between new b a).given ≡ (edge_between old b a).given
-  pub released : (b a : Actor) → (edge_between new b a).released ≡ (edge_between old b a).released
+  pub count : (b a : Actor) → (edge_between new b a).count ≡ (edge_between old b a).count
 
 -- both actors of each row are named
 abbrev pub ArePairsNamed : List Actor → List PairCount → Type 0

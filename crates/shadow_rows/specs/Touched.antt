@@ -21,5 +21,4 @@ is_touched l a =
 -- what is known of the actor stays, and so do all references to it
 pub record LeavesActor (old new : Shadows) (was now : Edges) (a : Actor) : Type 0 where
   pub shadow : shadow_at new a ≡ shadow_at old a
-  pub given : (b : Actor) → (edge_between now b a).given ≡ (edge_between was b a).given
-  pub released : (b : Actor) → (edge_between now b a).released ≡ (edge_between was b a).released
+  pub count : (b : Actor) → (edge_between now b a).count ≡ (edge_between was b a).count

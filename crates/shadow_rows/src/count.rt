@@ -1,10 +1,11 @@
 //! What a bulletin counts of messages and references.
-ghost use Rattle.std.specs.Prelude.{◌≡◌, ◌+◌, ◌<◌, ◌^◌, if◌then◌else◌, true};
+ghost use Rattle.std.specs.Prelude.{◌≡◌, ◌+◌, ◌<◌, ◌^◌, ◌+ℤ◌, ◌<ℤ◌, if◌then◌else◌, pos, true};
 ghost use Rattle.std.specs.List.{AllByRecursion};
 ghost use Rattle.crgc_ids.specs.Actor.{Actor};
 ghost use Rattle.history_model.specs.Ledgers.{actor_total, pair_total};
 ghost use Rattle.shadow_table.specs.Shadows.{ChangesShadows, is_named, shadow_at, with_admitted, with_told};
-ghost use Rattle.shadow_rows.specs.Pairs.{ChangesEdges, edge_between, with_given};
+ghost use Rattle.edge_table.specs.Table.{with_given};
+ghost use Rattle.shadow_rows.specs.Pairs.{ChangesEdges, edge_between};
 ghost use Rattle.shadow_rows.specs.Tabled.{AreNumbered};
 
 use crate::edges::give_all;
@@ -25,7 +26,7 @@ pub fn count_told(
     requires named { AllByRecursion (λ r. is_named shadows.old.names r.actor ≡ true) sent.now }
     requires numbered { AreNumbered edges.old created.now numbers.now }
     requires told_fits { (a : Actor) → (shadow_at shadows.old a).told + actor_total a sent.now < 2 ^ 64 }
-    requires given_fits { (b a : Actor) → (edge_between edges.old b a).given + pair_total b a created.now < 2 ^ 64 }
+    requires given_fits { (b a : Actor) → ((edge_between edges.old b a).count +ℤ pos (pair_total b a created.now)) <ℤ pos (2 ^ 63) }
     ensures shadows { ChangesShadows shadows.old shadows.new (λ a s. with_told (if counts then actor_total a sent.now else 0) s) }
     ensures edges { ChangesEdges edges.old edges.new (λ b a e. with_given (if counts then pair_total b a created.now else 0) e) }
 {
@@ -49,7 +50,7 @@ pub fn count_admitted(
     requires named { AllByRecursion (λ r. is_named shadows.old.names r.actor ≡ true) messages.now }
     requires numbered { AreNumbered edges.old carried.now numbers.now }
     requires admitted_fits { (a : Actor) → (shadow_at shadows.old a).admitted + actor_total a messages.now < 2 ^ 64 }
-    requires given_fits { (b a : Actor) → (edge_between edges.old b a).given + pair_total b a carried.now < 2 ^ 64 }
+    requires given_fits { (b a : Actor) → ((edge_between edges.old b a).count +ℤ pos (pair_total b a carried.now)) <ℤ pos (2 ^ 63) }
     ensures shadows { ChangesShadows shadows.old shadows.new (λ a s. with_admitted (if counts then actor_total a messages.now else 0) s) }
     ensures edges { ChangesEdges edges.old edges.new (λ b a e. with_given (if counts then pair_total b a carried.now else 0) e) }
 {

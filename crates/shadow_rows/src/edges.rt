@@ -1,10 +1,10 @@
 //! Edges by the pair of their owner and their target.
-ghost use Rattle.std.specs.Prelude.{◌≡◌, ◌+◌, ◌<◌, ◌^◌, true, IfSome, length};
+ghost use Rattle.std.specs.Prelude.{◌≡◌, ◌<◌, ◌^◌, ◌+ℤ◌, ◌-ℤ◌, ◌<ℤ◌, neg_ℤ, pos, true, IfSome, length};
 ghost use Rattle.std.specs.List.{IsDistinct, position_or_len};
 ghost use Rattle.crgc_ids.specs.Actor.{Actor};
 ghost use Rattle.history_model.specs.Ledgers.{pair_total};
-ghost use Rattle.edge_table.specs.Table.{number_at, same_pair};
-ghost use Rattle.shadow_rows.specs.Pairs.{ChangesEdge, ChangesEdges, edge_between, has_pair, with_given, with_released, without_given};
+ghost use Rattle.edge_table.specs.Table.{number_at, same_pair, with_given, with_released};
+ghost use Rattle.shadow_rows.specs.Pairs.{ChangesEdge, ChangesEdges, edge_between, has_pair};
 ghost use Rattle.shadow_rows.specs.Tabled.{AreNumbered, AreTabled};
 
 use crgc_ids::{ActorId, PairCount};
@@ -48,32 +48,32 @@ pub fn give(
     edges: &mut EdgeTable,
     owner: ActorId,
     target: ActorId,
-    count: u64,
+    count: u32,
 )
     requires tabled { AreTabled shadows.now.names edges.old }
     requires there { has_pair edges.old.pairs owner target ≡ true }
-    requires fits { (edge_between edges.old owner target).given + count < 2 ^ 64 }
+    requires fits { ((edge_between edges.old owner target).count +ℤ pos count) <ℤ pos (2 ^ 63) }
     ensures { ChangesEdge edges.old edges.new owner target (with_given count) }
 {
     let number = number(shadows, edges, owner, target);
     edges.give(number, count);
 }
 
-/// So many of the references to the target that the owner was given are taken back, or all where there are fewer.
+/// So many of the references to the target that the owner was given are taken back.
 pub fn take_back(
     shadows: &ShadowTable,
     edges: &mut EdgeTable,
     owner: ActorId,
     target: ActorId,
-    count: u64,
+    count: u32,
 )
     requires tabled { AreTabled shadows.now.names edges.old }
     requires there { has_pair edges.old.pairs owner target ≡ true }
-    ensures { ChangesEdge edges.old edges.new owner target (without_given count) }
+    requires fits { neg_ℤ (pos (2 ^ 63)) <ℤ ((edge_between edges.old owner target).count -ℤ pos count) }
+    ensures { ChangesEdge edges.old edges.new owner target (with_released count) }
 {
     let number = number(shadows, edges, owner, target);
-    let given = edges.edge(number).given;
-    edges.take_back(number, count.min(given));
+    edges.release(number, count);
 }
 
 /// The references that the row counts are given along its edge, which has this number.
@@ -81,10 +81,10 @@ fn give_row(edges: &mut EdgeTable, number: u32, row: PairCount)
     requires there { has_pair edges.old.pairs row.owner row.target ≡ true }
     requires number { number ≡ position_or_len (same_pair (row.owner, row.target)) edges.old.pairs }
     requires within { number < length edges.old.edges }
-    requires fits { (edge_between edges.old row.owner row.target).given + row.count < 2 ^ 64 }
+    requires fits { ((edge_between edges.old row.owner row.target).count +ℤ pos row.count) <ℤ pos (2 ^ 63) }
     ensures { ChangesEdge edges.old edges.new row.owner row.target (with_given row.count) }
 {
-    edges.give(number, u64::from(row.count));
+    edges.give(number, row.count);
 }
 
 /// The references that the row counts are released along its edge, which has this number.
@@ -92,16 +92,16 @@ fn release_row(edges: &mut EdgeTable, number: u32, row: PairCount)
     requires there { has_pair edges.old.pairs row.owner row.target ≡ true }
     requires number { number ≡ position_or_len (same_pair (row.owner, row.target)) edges.old.pairs }
     requires within { number < length edges.old.edges }
-    requires fits { (edge_between edges.old row.owner row.target).released + row.count < 2 ^ 64 }
+    requires fits { neg_ℤ (pos (2 ^ 63)) <ℤ ((edge_between edges.old row.owner row.target).count -ℤ pos row.count) }
     ensures { ChangesEdge edges.old edges.new row.owner row.target (with_released row.count) }
 {
-    edges.release(number, u64::from(row.count));
+    edges.release(number, row.count);
 }
 
 /// The references that the rows count are given along their edges, which have these numbers. Linear time in the number of rows.
 pub fn give_all(edges: &mut EdgeTable, rows: &[PairCount], numbers: &[u32])
     requires numbered { AreNumbered edges.old rows.now numbers.now }
-    requires fits { (b a : Actor) → (edge_between edges.old b a).given + pair_total b a rows.now < 2 ^ 64 }
+    requires fits { (b a : Actor) → ((edge_between edges.old b a).count +ℤ pos (pair_total b a rows.now)) <ℤ pos (2 ^ 63) }
     ensures { ChangesEdges edges.old edges.new (λ b a e. with_given (pair_total b a rows.now) e) }
 {
     for i in 0..rows.len() {
@@ -113,7 +113,7 @@ pub fn give_all(edges: &mut EdgeTable, rows: &[PairCount], numbers: &[u32])
 /// rows.
 pub fn release_all(edges: &mut EdgeTable, rows: &[PairCount], numbers: &[u32])
     requires numbered { AreNumbered edges.old rows.now numbers.now }
-    requires fits { (b a : Actor) → (edge_between edges.old b a).released + pair_total b a rows.now < 2 ^ 64 }
+    requires fits { (b a : Actor) → neg_ℤ (pos (2 ^ 63)) <ℤ ((edge_between edges.old b a).count -ℤ pos (pair_total b a rows.now)) }
     ensures { ChangesEdges edges.old edges.new (λ b a e. with_released (pair_total b a rows.now) e) }
 {
     for i in 0..rows.len() {

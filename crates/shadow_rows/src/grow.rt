@@ -1,4 +1,4 @@
-//! Edges that are added, with nothing given and released.
+//! Edges that are added, each with count 0.
 ghost use Rattle.std.specs.Prelude.{◌≡◌, ◌<◌, ◌≤◌, ◌||◌, true, IfOk, IfSome, OnErr, OnOk, length, take};
 ghost use Rattle.edge_table.specs.Table.{Edges, same_pair};
 ghost use Rattle.crgc_ids.specs.Actor.{Actor, same_actor};

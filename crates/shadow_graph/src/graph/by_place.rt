@@ -1,5 +1,5 @@
 //! The edges of a shadow graph by the places of its actors.
-ghost use Rattle.std.specs.Prelude.{◌≡◌, ◌<◌, ◌≤◌, ◌-ℤ◌, if◌then◌else◌, IfNone, IfSome, pos, length, slice_index};
+ghost use Rattle.std.specs.Prelude.{◌≡◌, ◌<◌, ◌≤◌, if◌then◌else◌, IfNone, IfSome, length, slice_index};
 ghost use Rattle.edge_table.specs.Table.{ArePositive, edge_at, no_edge};
 ghost use Rattle.shadow_table.specs.Shadows.{shadow_at};
 ghost use Rattle.shadow_rows.specs.Pairs.{edge_between};
@@ -38,8 +38,7 @@ impl ShadowGraph {
         requires index { index < length (targets_of self.now place) }
         ensures target { result.0 ≡ slice_index (targets_of self.now place) index }
         ensures within { result.0 < length self.now.shadows.names }
-        ensures value { let e = seen_edge self.now (actor_of self.now place) (actor_of self.now result.0) in
-            result.1 ≡ pos e.given -ℤ pos e.released }
+        ensures value { result.1 ≡ (seen_edge self.now (actor_of self.now place) (actor_of self.now result.0)).count }
     {
         let (_, number) = self.edges.edges_from(place)[index as usize];
         let edge = self.numbered(number);
@@ -61,17 +60,16 @@ impl ShadowGraph {
         requires index { index < length (owners_of self.now place) }
         ensures owner { result.0 ≡ slice_index (owners_of self.now place) index }
         ensures within { result.0 < length self.now.shadows.names }
-        ensures value { let e = seen_edge self.now (actor_of self.now result.0) (actor_of self.now place) in
-            result.1 ≡ pos e.given -ℤ pos e.released }
+        ensures value { result.1 ≡ (seen_edge self.now (actor_of self.now result.0) (actor_of self.now place)).count }
     {
         let (_, number) = self.edges.edges_to(place)[index as usize];
         let edge = self.numbered(number);
         (edge.owner, self.value(edge.target, edge))
     }
 
-    /// The positive edges from the actor at the place, along which more references were given than released, whether the target was
-    /// dropped or not: the place of the target and the number of each. There may be others of its edges among them, as
-    /// `EdgeTable::positive_from` says. Constant time, or logarithmic time where more than 128 edges lead from it.
+    /// The positive edges from the actor at the place, whose count is above 0, whether the target was dropped or not: the place of
+    /// the target and the number of each. There may be others of its edges among them, as `EdgeTable::positive_from` says. Constant
+    /// time, or logarithmic time where more than 128 edges lead from it.
     pub fn positive_from(&self, place: u32) -> &[(u32, u32)]
         requires { place < length self.now.shadows.names }
         ensures { ArePositive (λ e. e.owner) (λ e. e.target) self.now.edges.edges place result.now }
@@ -96,8 +94,7 @@ impl ShadowGraph {
         ensures target { IfSome result (λ r. r.1 ≡ (edge_at self.now.edges number).target) }
         ensures owner_within { IfSome result (λ r. r.0 < length self.now.shadows.names) }
         ensures target_within { IfSome result (λ r. r.1 < length self.now.shadows.names) }
-        ensures value { IfSome result (λ r. let e = seen_edge self.now (actor_of self.now r.0) (actor_of self.now r.1) in
-            r.2 ≡ pos e.given -ℤ pos e.released) }
+        ensures value { IfSome result (λ r. r.2 ≡ (seen_edge self.now (actor_of self.now r.0) (actor_of self.now r.1)).count) }
         ensures none { IfNone result (length self.now.edges.edges ≤ number) }
     {
         if number >= self.edges.edge_count() {
@@ -115,29 +112,24 @@ impl ShadowGraph {
         ensures target { result.target < length self.now.shadows.names }
         ensures pair { pair_at self.now.edges.pairs number ≡ (actor_of self.now result.owner, actor_of self.now result.target) }
         ensures between { edge_between self.now.edges (actor_of self.now result.owner) (actor_of self.now result.target) ≡ result }
-        ensures given { result.given ≤ 4611686018427387904 }
-        ensures released { result.released ≤ 4611686018427387904 }
     {
         let _names = self.shadows.place_count();
         let _pairs = self.edges.edge_count();
         self.edges.edge(number)
     }
 
-    /// The references that were given along the edge, less those that were released; 0 where the actor at the place was dropped.
+    /// The count of the edge to the actor at the place; 0 where this was dropped.
     fn value(&self, target: u32, edge: Edge) -> i64
-        requires target { target < length self.now.shadows.names }
-        requires given { edge.given ≤ 4611686018427387904 }
-        requires released { edge.released ≤ 4611686018427387904 }
-        ensures { let e = if is_dropped self.now (actor_of self.now target) then no_edge else edge in
-            result ≡ pos e.given -ℤ pos e.released }
+        requires { target < length self.now.shadows.names }
+        ensures { result ≡ (if is_dropped self.now (actor_of self.now target) then no_edge else edge).count }
     {
         let _names = self.shadows.place_count();
-        if edge.given == edge.released {
+        if edge.count == 0 {
             return 0;
         }
         if self.shadows.shadow(target).dropped {
             return 0;
         }
-        edge.given as i64 - edge.released as i64
+        edge.count
     }
 }

@@ -1,4 +1,4 @@
-use Rattle.std.proofs.Common.{◌≡◌, ◌+◌, ◌++◌, ℕ, [], ◌∷◌, Some, ap, arith, get_or, inl, inr, length, position, subst, sym, ◌∙◌}
+use Rattle.std.proofs.Common.{◌≡◌, ◌+◌, ◌++◌, ℕ, [], ◌∷◌, Some, ap, arith, get_or, inl, inr, length, pos, position, subst, sym, ◌∙◌}
 use Rattle.std.proofs.Math.Seq.{get_or-append_seam}
 use Rattle.std.proofs.lemmas.Bool.{cases_lt}
 use Rattle.std.proofs.lemmas.List.{get_or_append_left, length-append}
@@ -87,5 +87,5 @@ number_of-requires-clause-ends c =
 
 pub returns : goal.returns
 returns c =
-    added c.args.table.now c.add.new.self c.in_ok-from.from c.in_ok-to.to (record { owner = c.args.owner; target = c.args.target; given = 0; released = 0 })
+    added c.args.table.now c.add.new.self c.in_ok-from.from c.in_ok-to.to (record { owner = c.args.owner; target = c.args.target; count = pos 0 })
     c.number_of.ensures.long c.edge_count-edges.ensures.distinct c.in_ok-number.ensures.ok (sym c.in_ok-from.ensures.serial) (sym c.in_ok-to.ensures.serial) c.in_ok-from.ensures.node c.in_ok-to.ensures.node c.requires

@@ -6,4 +6,4 @@ use Rattle.edge_table.specs.Table.{is_positive_at}
 use Rattle.edge_table.proofs.positive.partition_of.Given as goal
 
 abbrev pub invariant-loop-i : goal.invariant-loop-i
-invariant-loop-i l = IsParted l.ends (λ n. is_positive_at l.edges n && list_any (nat_eq n) (take l.i (numbers_in l.ends))) l.partition
+invariant-loop-i l = IsParted l.ends (λ n. is_positive_at l.edges.edges n && list_any (nat_eq n) (take l.i (numbers_in l.ends))) l.partition

@@ -1,6 +1,6 @@
 use Rattle.std.proofs.Common.{refl, subst, sym}
-use Rattle.edge_table.specs.Table.{Edges, edge_at}
-use Rattle.shadow_rows.specs.Pairs.{ChangesEdge, with_given}
+use Rattle.edge_table.specs.Table.{Edges, edge_at, with_given}
+use Rattle.shadow_rows.specs.Pairs.{ChangesEdge}
 use Rattle.shadow_rows.proofs.PairLemmas.{edge-changed}
 use Rattle.shadow_rows.proofs.edges.give.Goals as goal
 

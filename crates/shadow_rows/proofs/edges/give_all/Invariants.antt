@@ -1,6 +1,7 @@
 use Rattle.std.proofs.Common.{take}
 use Rattle.history_model.specs.Ledgers.{pair_total}
-use Rattle.shadow_rows.specs.Pairs.{ChangesEdges, with_given}
+use Rattle.edge_table.specs.Table.{with_given}
+use Rattle.shadow_rows.specs.Pairs.{ChangesEdges}
 use Rattle.shadow_rows.proofs.edges.give_all.Given as goal
 
 abbrev pub invariant-loop-i : goal.invariant-loop-i

@@ -1,6 +1,6 @@
-use Rattle.std.proofs.Common.{◌∙◌, ap, refl, subst, sym}
-use Rattle.edge_table.specs.Table.{Edges, edge_at, with_edge}
-use Rattle.shadow_rows.specs.Pairs.{ChangesEdge, with_released}
+use Rattle.std.proofs.Common.{refl, subst, sym}
+use Rattle.edge_table.specs.Table.{Edges, edge_at, with_released}
+use Rattle.shadow_rows.specs.Pairs.{ChangesEdge}
 use Rattle.shadow_rows.proofs.PairLemmas.{edge-changed}
 use Rattle.shadow_rows.proofs.edges.release_row.Goals as goal
 
@@ -10,4 +10,4 @@ returns c =
     let row = c.args.row in
     let n = c.args.number in
     let changed = edge-changed old row.owner row.target n (with_released row.count (edge_at old n)) (with_released row.count) c.requires.there c.requires.number c.requires.within refl refl refl in
-    subst (λ (t : Edges). ChangesEdge old t row.owner row.target (with_released row.count)) (sym (c.release.ensures ∙ ap (λ m. with_edge old n (with_released m (edge_at old n))) c.from.ensures)) changed
+    subst (λ (t : Edges). ChangesEdge old t row.owner row.target (with_released row.count)) (sym c.release.ensures) changed

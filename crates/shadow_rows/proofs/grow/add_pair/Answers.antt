@@ -1,4 +1,4 @@
-use Rattle.std.proofs.Common.{arith, ◌++◌, [], ◌∷◌, Some, refl, rules}
+use Rattle.std.proofs.Common.{arith, pos, ◌++◌, [], ◌∷◌, Some, refl, rules}
 use Rattle.crgc_ids.specs.Actor.{same_actor}
 use Rattle.edge_table.specs.Table.{Edges}
 use Rattle.edge_table.specs.declared.table.Edge.{Edge}
@@ -35,14 +35,14 @@ returns-in-Some-clause-extends c = edges-extend-self c.args.edges.now
 
 pub returns-clause-number : goal.returns-clause-number
 returns-clause-number c =
-    let e : Edge = record { owner = c.args.from; target = c.unwrap-to.result; given = 0; released = 0 } in
+    let e : Edge = record { owner = c.args.from; target = c.unwrap-to.result; count = pos 0 } in
     number-added c.add.result c.args.edges.now c.add.new.self c.args.owner c.args.target e (search rules) c.number_of.ensures.long c.add.ensures.number c.add.ensures.ok
 
 pub returns-clause-tabled : goal.returns-clause-tabled
 returns-clause-tabled c =
     let t = c.args.edges.now in
     let names = c.args.shadows.now.names in
-    let e : Edge = record { owner = c.args.from; target = c.unwrap-to.result; given = 0; released = 0 } in
+    let e : Edge = record { owner = c.args.from; target = c.unwrap-to.result; count = pos 0 } in
     let v : Edges = record t { pairs = t.pairs ++ (c.args.owner, c.args.target) ∷ []; edges = t.edges ++ e ∷ [] } in
     let after = tabled-added names t v c.args.owner c.args.target e c.requires.tabled c.number_of.ensures.long c.requires.owner c.requires.target c.requires.from (search rules) refl in
     either_way c.add.result t c.add.new.self v (AreTabled names) c.add.ensures.ok c.add.ensures.err c.requires.tabled after
@@ -50,6 +50,6 @@ returns-clause-tabled c =
 pub returns-clause-extends : goal.returns-clause-extends
 returns-clause-extends c =
     let t = c.args.edges.now in
-    let e : Edge = record { owner = c.args.from; target = c.unwrap-to.result; given = 0; released = 0 } in
+    let e : Edge = record { owner = c.args.from; target = c.unwrap-to.result; count = pos 0 } in
     let v : Edges = record t { pairs = t.pairs ++ (c.args.owner, c.args.target) ∷ []; edges = t.edges ++ e ∷ [] } in
-    either_way c.add.result t c.add.new.self v (ExtendsEdges t) c.add.ensures.ok c.add.ensures.err (edges-extend-self t) (edge-added t v c.args.owner c.args.target e c.number_of.ensures.long refl refl refl)
+    either_way c.add.result t c.add.new.self v (ExtendsEdges t) c.add.ensures.ok c.add.ensures.err (edges-extend-self t) (edge-added t v c.args.owner c.args.target e c.number_of.ensures.long refl refl)

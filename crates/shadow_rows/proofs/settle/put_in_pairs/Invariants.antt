@@ -1,6 +1,7 @@
 use Rattle.std.proofs.Common.{take}
 use Rattle.history_model.specs.Ledgers.{pair_total}
-use Rattle.shadow_rows.specs.Pairs.{ChangesEdges, with_given}
+use Rattle.edge_table.specs.Table.{with_given}
+use Rattle.shadow_rows.specs.Pairs.{ChangesEdges}
 use Rattle.shadow_rows.proofs.settle.put_in_pairs.Given as goal
 
 abbrev pub invariant-loop-row : goal.invariant-loop-row

@@ -1,8 +1,10 @@
-use Rattle.std.proofs.Common.{◌≡◌, ◌∙◌, ℕ, arith, refl, subst}
+use Rattle.std.proofs.Common.{◌≡◌, ◌∙◌, ℕ, Some, arith, refl, subst}
+use Rattle.std.proofs.lemmas.Int.{ints}
 use Rattle.shadow_rows.specs.Losing.{lost_so_far}
 use Rattle.shadow_rows.specs.Folded.{CountsFold}
 use Rattle.shadow_rows.proofs.AddedLemmas.{tabled-counted}
-use Rattle.shadow_rows.proofs.LosingLemmas.{IsTurn, corrects-none, first-counts, keeps-more, keeps-self, last-counts, turn-corrects, turn-counts}
+use Rattle.shadow_rows.proofs.LosingLemmas.{IsTurn, corrects-none, first-counts, gain-few, last-counts, turn-corrects, turn-counts}
+use Rattle.shadow_rows.proofs.PairLemmas.{keeps-more, keeps-self}
 use Rattle.shadow_rows.proofs.settle.settle_lost.Goals as goal
 
 pub loop-number-init : goal.loop-number-init
@@ -28,7 +30,7 @@ loop-number-preserved c =
     let turn : IsTurn log c.args.before c.args.after c.loop-number.number s t d e = subst (λ (i : ℕ). IsTurn log c.args.before c.args.after i s t d e) c.node.ensures here in
     record {
       counts = λ cl fold below logs counts. turn-counts cl fold log c.args.before c.args.after c.loop-number.number s t d e below logs turn (c.loop-number.invariant.counts cl fold below logs counts);
-      corrects = turn-corrects log c.args.before c.args.after c.loop-number.number c.args.shadows.now s t c.args.edges.now d e c.loop-number-test.true c.requires.log_small turn c.loop-number.invariant.corrects;
+      corrects = turn-corrects log c.args.before c.args.after c.loop-number.number c.args.shadows.now s t c.args.edges.now d e c.loop-number-test.true c.requires.told_small c.requires.log_small turn c.loop-number.invariant.corrects;
       names = c.settle_if_new.ensures.names ∙ c.loop-number.invariant.names;
       ends = keeps-more c.args.edges.now d e c.loop-number.invariant.ends c.settle_if_new.ensures.ends;
     }
@@ -46,3 +48,19 @@ returns-clause-counts c = λ cl fold few part below logs counts.
 pub settle_if_new-requires-clause-tabled : goal.settle_if_new-requires-clause-tabled
 settle_if_new-requires-clause-tabled c =
     tabled-counted c.args.shadows.now.names c.loop-number.shadows.names c.args.edges.now c.loop-number.edges c.loop-number.invariant.names c.loop-number.invariant.ends c.requires.tabled
+
+pub settle_if_new-requires-clause-given_fits : goal.settle_if_new-requires-clause-given_fits
+settle_if_new-requires-clause-given_fits c = λ b a.
+    let small = (c.requires.count_small b a).1 in
+    let so_far = (c.loop-number.invariant.corrects.count b a).1 in
+    let few = gain-few c.args.before c.args.after c.loop-number.number in
+    let one = c.requires.log_small c.node.result (Some b) a in
+    omega (arith, ints, small, so_far, few, one)
+
+pub settle_if_new-requires-clause-taken_fits : goal.settle_if_new-requires-clause-taken_fits
+settle_if_new-requires-clause-taken_fits c = λ b a.
+    let small = (c.requires.count_small b a).0 in
+    let so_far = (c.loop-number.invariant.corrects.count b a).0 in
+    let few = gain-few c.args.before c.args.after c.loop-number.number in
+    let one = c.requires.told_small c.node.result (Some b) a in
+    omega (arith, ints, small, so_far, few, one)

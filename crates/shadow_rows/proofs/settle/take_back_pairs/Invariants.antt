@@ -1,7 +1,8 @@
 use Rattle.std.proofs.Common.{take}
 use Rattle.history_model.specs.Ledgers.{pair_total}
-use Rattle.shadow_rows.specs.Pairs.{ChangesEdges, without_given}
+use Rattle.edge_table.specs.Table.{with_released}
+use Rattle.shadow_rows.specs.Pairs.{ChangesEdges}
 use Rattle.shadow_rows.proofs.settle.take_back_pairs.Given as goal
 
 abbrev pub invariant-loop-row : goal.invariant-loop-row
-invariant-loop-row l = ChangesEdges l.initial.edges l.edges (λ b a e. without_given (pair_total b a (take l.row-index l.rows)) e)
+invariant-loop-row l = ChangesEdges l.initial.edges l.edges (λ b a e. with_released (pair_total b a (take l.row-index l.rows)) e)

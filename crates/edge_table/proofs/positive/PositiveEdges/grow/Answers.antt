@@ -9,12 +9,12 @@ push-requires c =
     let before = c.requires.kept.0 in
     let more = ap length c.requires.kept.1 ∙ length-append before (c.args.end ∷ []) in
     let few = c.requires.few in
-    (before, is_positive_at c.args.edges.now, omega arith, c.requires.kept.2)
+    (before, is_positive_at c.args.edges.now.edges, omega arith, c.requires.kept.2)
 
 pub returns-then-ends-le-MANY-clause-kept : goal.returns-then-ends-le-MANY-clause-kept
 returns-then-ends-le-MANY-clause-kept c =
     let before = c.requires.kept.0 in
-    let counts = is_positive_at c.args.edges.now in
+    let counts = is_positive_at c.args.edges.now.edges in
     let kept = kept_of c.args.self.now c.args.place in
     let more = ap length c.requires.kept.1 ∙ length-append before (c.args.end ∷ []) in
     let short = c.if-ends-le-MANY.true in
@@ -23,6 +23,6 @@ returns-then-ends-le-MANY-clause-kept c =
 pub returns-then-push-clause-kept : goal.returns-then-push-clause-kept
 returns-then-push-clause-kept c =
     let before = c.requires.kept.0 in
-    let counts = is_positive_at c.args.edges.now in
+    let counts = is_positive_at c.args.edges.now.edges in
     subst (λ ns. IsKeptOf ns counts (kept_of c.push.new.self c.args.place)) (sym c.requires.kept.1)
     (c.push.ensures.pushed c.if-push.true before counts c.requires.free c.requires.kept.2)

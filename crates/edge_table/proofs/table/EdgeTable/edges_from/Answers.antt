@@ -8,7 +8,7 @@ use Rattle.edge_table.proofs.table.EdgeTable.edges_from.Goals as goal
 
 pub returns-clause-few : goal.returns-clause-few
 returns-clause-few c =
-    let edges = c.self.inside.edges.items in
+    let edges = c.self.inside.edges.edges in
     let places = c.self.inside.places.items in
     let inside : c.args.place < length places = subst (λ (t : Edges). c.args.place < t.places) (sym c.self.view_is) c.requires in
     let read = c.index.ensures ∙ get_or_default places c.args.place c.index.result.now no_ends inside in

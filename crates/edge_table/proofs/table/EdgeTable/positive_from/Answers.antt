@@ -9,11 +9,11 @@ returns-then-ends-le-MANY c = positive-whole owner_of target_of refl c.args.self
 
 pub positive-requires : goal.positive-requires
 positive-requires c =
-    (ends_from c.self.inside.edges.items c.args.place, is_positive_at c.self.inside.edges.items, c.self.invariant.1.1.from c.args.place)
+    (ends_from c.self.inside.edges.edges c.args.place, is_positive_at c.self.inside.edges.edges, c.self.invariant.1.1.from c.args.place)
 
 pub returns-in-Some : goal.returns-in-Some
 returns-in-Some c =
-    let edges = c.self.inside.edges.items in
+    let edges = c.self.inside.edges.edges in
     let kept = c.in-Some.ensures in
     let parted = (c.self.invariant.1.1.from c.args.place kept.0 kept.1).1 in
     subst (λ (t : Edges). ArePositive owner_of target_of t.edges c.args.place c.in-Some.positive.now) c.self.view_is

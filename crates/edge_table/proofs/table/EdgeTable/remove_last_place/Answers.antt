@@ -9,6 +9,6 @@ invariant_of-self c =
     let some = subst (λ (t : Edges). 0 < t.places) (sym c.self.view_is) c.requires.some in
     let from = subst (λ (t : Edges). edges_from t.edges (t.places - 1) ≡ []) (sym c.self.view_is) c.requires.from in
     let to = subst (λ (t : Edges). edges_to t.edges (t.places - 1) ≡ []) (sym c.self.view_is) c.requires.to in (
-      table-place_popped c.self.inside.pairs.pairs c.self.inside.edges.items c.self.inside.places.items c.pop.new.self.items c.pop.result c.self.invariant.0 (c.pop.ensures.variant.1 (omega arith)) c.pop.ensures.items from to,
+      table-place_popped c.self.inside.edges.pairs c.self.inside.edges.edges c.self.inside.places.items c.pop.new.self.items c.pop.result c.self.invariant.0 (c.pop.ensures.variant.1 (omega arith)) c.pop.ensures.items from to,
       c.self.invariant.1,
     )

@@ -14,10 +14,15 @@ settle_lost-requires-clause-admitted_small c =
     let g = c.self.inside in
     (small-kept g.shadows g.edges g.log g.finals g.lost g.cut c.self.invariant).admitted
 
-pub settle_lost-requires-clause-given_small : goal.settle_lost-requires-clause-given_small
-settle_lost-requires-clause-given_small c =
+pub settle_lost-requires-clause-count_small : goal.settle_lost-requires-clause-count_small
+settle_lost-requires-clause-count_small c =
     let g = c.self.inside in
-    (small-kept g.shadows g.edges g.log g.finals g.lost g.cut c.self.invariant).given
+    (small-kept g.shadows g.edges g.log g.finals g.lost g.cut c.self.invariant).count
+
+pub settle_lost-requires-clause-told_small : goal.settle_lost-requires-clause-told_small
+settle_lost-requires-clause-told_small c = λ n owner target.
+    let g = c.self.inside in
+    (log-small g.shadows g.edges g.log g.finals g.lost g.cut c.self.invariant n owner target).0
 
 pub settle_lost-requires-clause-log_small : goal.settle_lost-requires-clause-log_small
 settle_lost-requires-clause-log_small c = λ n owner target.

@@ -1,6 +1,5 @@
-use Rattle.std.proofs.Common.{◌<◌, ◌≤◌, ap, length, subst, sym, ◌∙◌}
+use Rattle.std.proofs.Common.{◌<◌, ap, length, subst, sym, ◌∙◌}
 use Rattle.edge_table.specs.declared.table.Edge.{Edge}
-use Rattle.shadow_graph.proofs.KeptLemmas.{small-kept}
 use Rattle.shadow_graph.proofs.PlacedLemmas.{AreKeyed, IsEdge, name_at, numbered}
 use Rattle.shadow_graph.specs.Graph.{Graph}
 use Rattle.shadow_graph.proofs.graph.ShadowGraph.numbered.Goals as goal
@@ -17,9 +16,6 @@ returns c =
     let inside = subst (λ (x : Graph). c.args.number < length x.edges.edges) (sym c.self.view_is) c.requires in
     let there = numbered g.shadows.names g.edges keyed c.args.number inside in
     let is : IsEdge g.shadows.names g.edges c.edge.result = subst (IsEdge g.shadows.names g.edges) (sym c.edge.ensures.edge) there.edge in
-    let small = small-kept g.shadows g.edges g.log g.finals g.lost g.cut c.self.invariant in
-    let owner = name_at g.shadows.names c.edge.result.owner in
-    let target = name_at g.shadows.names c.edge.result.target in
     rw (← c.self.view_is) (record {
       edge = c.edge.ensures.edge;
       owner = is.owner;
@@ -29,6 +25,4 @@ returns c =
         (sym there.target_is ∙ ap (λ (e : Edge). name_at g.shadows.names e.target) (sym c.edge.ensures.edge)) i,
       );
       between = is.between;
-      given = subst (λ (e : Edge). e.given ≤ 4611686018427387904) is.between (small.given owner target);
-      released = subst (λ (e : Edge). e.released ≤ 4611686018427387904) is.between (small.released owner target);
     })

@@ -1,4 +1,4 @@
-use Rattle.std.proofs.Common.{◌≡◌, ◌<◌, ◌-ℤ◌, ◌∙◌, SFits, ap, cond, get_or, length, pos, rules, subst, sym, w64}
+use Rattle.std.proofs.Common.{◌≡◌, ◌<◌, ◌∙◌, SFits, ap, cond, get_or, length, rules, subst, sym, w64}
 use Rattle.edge_table.specs.Table.{edge_at, edges_to, ends_to, no_edge}
 use Rattle.edge_table.specs.declared.table.Edge.{Edge}
 use Rattle.shadow_graph.proofs.PlacedLemmas.{between-value, end-at, to-at, inside-ends}
@@ -26,7 +26,7 @@ returns-clause-value c =
     let there = to-at x.edges.edges c.args.place c.args.index c.edges_to.result.now ends inside in
     let here = ap (λ (e : Edge). e.target) c.numbered-edge.ensures.edge ∙ there.1 in
     let fits : SFits w64 c.value.result = search rules in
-    between-value x (actor_of x c.numbered-edge.result.owner) (actor_of x c.args.place) c.numbered-edge.result c.value.result (ap (λ p. edge_between x.edges (actor_of x c.numbered-edge.result.owner) (actor_of x p)) (sym here) ∙ c.numbered-edge.ensures.between) (c.value.ensures ∙ ap (λ p. pos (cond (is_dropped x (actor_of x p)) no_edge c.numbered-edge.result).given -ℤ pos (cond (is_dropped x (actor_of x p)) no_edge c.numbered-edge.result).released) here) fits
+    between-value x (actor_of x c.numbered-edge.result.owner) (actor_of x c.args.place) c.numbered-edge.result c.value.result (ap (λ p. edge_between x.edges (actor_of x c.numbered-edge.result.owner) (actor_of x p)) (sym here) ∙ c.numbered-edge.ensures.between) (c.value.ensures ∙ ap (λ p. (cond (is_dropped x (actor_of x p)) no_edge c.numbered-edge.result).count) here) fits
 
 pub returns-clause-owner : goal.returns-clause-owner
 returns-clause-owner c =

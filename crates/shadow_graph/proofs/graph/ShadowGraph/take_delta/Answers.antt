@@ -35,7 +35,7 @@ returns-in-Ok-clause-ok c =
     let told_is = told ∙ ap (λ (xs : List ℕ). not (has_node xs d.node)) c.self.invariant.by_finals in
     let adds = subst (λ (v : Bool). AddsRows d.node v (delta_ledger d) no_rows g.shadows c.add_delta.new.shadows g.edges c.add_delta.new.edges) told_is c.in-Ok.ensures.adds in
     rw (← c.self.view_is) (record {
-      rows = record { shadows = adds.shadows; given = adds.given; released = adds.released };
+      rows = record { shadows = adds.shadows; count = adds.count };
       log = c.in-Ok.ensures.noted;
       names = c.in-Ok.ensures.named;
       more = c.in-Ok.ensures.more;

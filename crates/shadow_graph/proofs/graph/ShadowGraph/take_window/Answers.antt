@@ -36,7 +36,7 @@ returns-in-Ok-clause-ok c =
     let adds = subst (λ (v : Bool). AddsRows w.at told no_rows (cond v (window_ledger w) no_rows) g.shadows c.add_window.new.shadows g.edges c.add_window.new.edges) is (c.in-Ok.ensures.adds told) in
     let by = subst (λ (xs : List ℕ). AddsRows w.at (not (has_node xs w.at)) no_rows (cond (has_node xs w.from) (window_ledger w) no_rows) g.shadows c.add_window.new.shadows g.edges c.add_window.new.edges) c.self.invariant.by_finals adds in
     rw (← c.self.view_is) (record {
-      rows = record { shadows = by.shadows; given = by.given; released = by.released };
+      rows = record { shadows = by.shadows; count = by.count };
       log = c.in-Ok.ensures.noted;
       names = c.in-Ok.ensures.named;
       more = c.in-Ok.ensures.more;
@@ -52,7 +52,7 @@ returns-in-Ok-clause-ok_final c =
     let adds = subst (λ (v : Bool). AddsRows w.at told no_rows (cond v (window_ledger w) no_rows) g.shadows c.add_window.new.shadows g.edges c.add_window.new.edges) is (c.in-Ok.ensures.adds told) in
     let by = subst (λ (xs : List ℕ). AddsRows w.at (not (has_node xs w.at)) no_rows (cond (has_node xs w.from) (window_ledger w) no_rows) g.shadows c.add_window.new.shadows g.edges c.add_window.new.edges) c.self.invariant.by_finals adds in
     rw (← c.self.view_is) (record {
-      rows = record { shadows = by.shadows; given = by.given; released = by.released };
+      rows = record { shadows = by.shadows; count = by.count };
       log = c.in-Ok.ensures.noted_final;
       names = c.in-Ok.ensures.named;
       more = c.in-Ok.ensures.more;
