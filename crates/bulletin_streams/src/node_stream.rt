@@ -18,6 +18,9 @@ use history_model::{Bulletin, Entry, Window};
 use std::alloc::Global;
 use std::marker::Model;
 
+/// For how many entries the queue of a node keeps room when it was published.
+const ROOM_KEPT: usize = 1_024;
+
 /// The entries that wait for the next publish of a node, and the bulletins of its stream.
 #[derive(Drop)]
 pub struct NodeStream {
@@ -94,7 +97,8 @@ impl NodeStream {
         self.entries.pop();
     }
 
-    /// The queue becomes one Delta of the node, last in the stream. After an error all is as before.
+    /// The queue becomes one Delta of the node, last in the stream, and gives up its room but for some. After an error all is as
+    /// before.
     pub fn publish(&mut self, node: NodeId) -> Result<(), DeltaFault>
         requires { CountsFit (entries_ledger self.old.entries) }
         ensures ok { OnOk result (Publishes node self.old self.new) }
@@ -113,6 +117,7 @@ impl NodeStream {
             return Err(DeltaFault::NoMemory);
         }
         self.entries.clear();
+        self.entries.shrink_to(ROOM_KEPT);
         Ok(())
     }
 

@@ -1,5 +1,5 @@
 -- The history that a text tells, by its header and the lines after it.
-use Rattle.std.proofs.Common.{◌≡◌, ◌≤◌, ℕ, Bool, false, if◌then◌else◌, List, ◌∷◌, length, nat_lt, Some, Option, Result, Ok, Err, sym, ◌∙◌, ap, arith}
+use Rattle.std.proofs.Common.{◌≡◌, ◌≤◌, ◌-◌, ℕ, Bool, false, if◌then◌else◌, List, ◌∷◌, drop, length, nat_lt, Some, Option, Result, Ok, Err, sym, ◌∙◌, ap, subst, arith}
 use Rattle.std.proofs.lemmas.Bool.Decides.{nat_tests}
 use Rattle.crgc_ids.specs.declared.Which.TheVariants.{Input}
 use Rattle.history_model.specs.Cluster.{Cluster}
@@ -19,6 +19,12 @@ journal-short text short =
     let test : nat_lt 16777216 (length text) ≡ false = grind (arith, nat_tests, short) in
     let choose : Bool → Told = λ b. if b then Err (0, limit Input) else journal_lines (lines_of text) in
     ap choose test
+
+-- the lines after the first are those of the text after what was read of it
+pub lines-left : (text all first rest : List ℕ) (n : ℕ) → n ≡ length text → all ≡ text → lines_of all ≡ first ∷ lines_of rest → rest ≡ drop (length all - length rest) all → lines_of text ≡ first ∷ lines_of (drop (n - length rest) text)
+lines-left text all first rest n long same lines left =
+    subst (λ (t : List ℕ). lines_of t ≡ first ∷ lines_of (drop (length t - length rest) t)) same (lines ∙ ap (λ (r : List ℕ). first ∷ lines_of r) left)
+    ∙ ap (λ m. first ∷ lines_of (drop (m - length rest) text)) (sym long)
 
 journal-begun : (text first : List ℕ) (rest : List (List ℕ)) (o : Option Cluster) → length text ≤ 16777216 → lines_of text ≡ first ∷ rest → header_of first ≡ o → journal_of text ≡ after_header o rest
 journal-begun text first rest o short lines is = journal-short text short ∙ ap journal_lines lines ∙ ap (λ x. after_header x rest) is

@@ -1,6 +1,4 @@
-use Rattle.std.proofs.Common.{sym, ◌∙◌, ap}
 use Rattle.history_model.specs.Story.{Story}
-use Rattle.journal_model.specs.Journals.{journal_of}
 use Rattle.journal_player.proofs.journal.play.Goals as goal
 
 pub returns-clause-report : goal.returns-clause-report
@@ -8,5 +6,4 @@ returns-clause-report c =
     let p = c.in_ok-player.player in
     let told : Story = record { cluster = p.cluster; past = p.replay.past } in
     let legal = c.report.ensures.legal in
-    let told_by = ap journal_of (sym c.as_slice.ensures.value) ∙ c.in_ok-player.ensures.told in
-    (told, told_by, legal, c.report.ensures.within, c.a_legal_history_is_rightly_collected.ensures p.cluster p.replay.past legal, c.in_ok-report.ensures.text)
+    (told, c.in_ok-player.ensures.told, legal, c.report.ensures.within, c.a_legal_history_is_rightly_collected.ensures p.cluster p.replay.past legal, c.in_ok-report.ensures.text)
