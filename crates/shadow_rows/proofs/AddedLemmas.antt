@@ -4,12 +4,12 @@ use Rattle.std.proofs.lemmas.Int.{ints}
 use Rattle.crgc_ids.specs.Actor.{Actor}
 use Rattle.history_model.specs.Ledgers.{Ledger}
 use Rattle.edge_table.specs.Table.{Edges}
-use Rattle.shadow_table.specs.Shadows.{ExtendsShadows, Shadows}
+use Rattle.shadow_table.specs.Shadows.{Shadows}
 use Rattle.shadow_table.specs.declared.table.Shadow.{Shadow}
 use Rattle.undo_log.specs.declared.corrections.Correction.{Correction}
 use Rattle.shadow_rows.specs.Rows.{AddsRows, AreSmall, IsLogCovered, counted_shadow}
 use Rattle.shadow_rows.specs.Pairs.{IsWithin, KeepsEnds}
-use Rattle.shadow_rows.specs.Tabled.{AreTabled, ExtendsEdges}
+use Rattle.shadow_rows.specs.Tabled.{AreTabled, ExtendsEdges, ExtendsShadows}
 use Rattle.shadow_rows.proofs.GrowLemmas.{tabled-named}
 
 pub small-grown : (s t : Shadows) (e f : Edges) → ExtendsShadows s t → ExtendsEdges e f → AreSmall s e → AreSmall t f

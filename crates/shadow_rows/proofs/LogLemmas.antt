@@ -13,7 +13,7 @@ use Rattle.history_model.specs.declared.records.Delta.{Delta}
 use Rattle.history_model.specs.declared.records.Window.{Window}
 use Rattle.history_model.specs.Ledgers.{no_rows, window_ledger}
 use Rattle.edge_table.specs.Table.{Edges, same_pair}
-use Rattle.shadow_table.specs.Shadows.{ExtendsShadows, Shadows, first_of, is_named}
+use Rattle.shadow_table.specs.Shadows.{Shadows, first_of, is_named}
 use Rattle.shadow_table.proofs.NameLemmas.{named-kept}
 use Rattle.undo_log.specs.Noted.{noted_count}
 use Rattle.undo_log.specs.Told.{Notes, admitted_from, told_by}
@@ -24,7 +24,7 @@ use Rattle.undo_log.specs.declared.corrections.Side.TheVariants as sides
 use Rattle.shadow_rows.specs.Rows.{AddsLog, IsLogCovered}
 use Rattle.shadow_rows.specs.Pairs.{has_pair}
 use Rattle.shadow_rows.specs.Settled.{IsCovered}
-use Rattle.shadow_rows.specs.Tabled.{ArePairs, ExtendsEdges}
+use Rattle.shadow_rows.specs.Tabled.{ArePairs, ExtendsEdges, ExtendsShadows}
 use Rattle.shadow_rows.proofs.GrowLemmas.{pair-kept}
 use Rattle.shadow_rows.proofs.PairLemmas.{same_pair-decides}
 

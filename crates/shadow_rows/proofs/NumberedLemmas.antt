@@ -61,6 +61,11 @@ pub either_way : {N E : Type 0} (r : Result N E) (t u v : Edges) (P : Edges → 
 either_way (Ok n) t u v P ok err before after = subst P (sym ok) after
 either_way (Err e) t u v P ok err before after = subst P (sym err) before
 
+-- what holds of the edges after it holds where it was added
+pub when_added : {N E : Type 0} (r : Result N E) (u v : Edges) (P : Edges → Type 0) → OnOk r (u ≡ v) → P v → OnOk r (P u)
+when_added (Ok n) u v P is after = subst P (sym is) after
+when_added (Err e) u v P is after = tt
+
 -- the new edge's number is that of its pair
 pub number-added : {E : Type 0} (r : Result ℕ E) (t u : Edges) (owner target : Actor) (e : Edge) → number_at t owner target ≡ None → length t.edges ≡ length t.pairs → IfOk r (λ n. n ≡ length t.edges) → OnOk r (u ≡ record t { pairs = t.pairs ++ (owner, target) ∷ []; edges = t.edges ++ e ∷ [] }) → IfOk r (λ n. n ≡ position_or_len (same_pair (owner, target)) u.pairs)
 number-added (Err x) t u owner target e none long is added = tt

@@ -1,6 +1,6 @@
 -- How shadows and edges stand to each other, and how both grow.
-use Rattle.std.specs.Prelude.{◌≡◌, ◌<◌, ◌≤◌, ◌++◌, ℕ, true, not, List, length, map, slice_index_or}
-use Rattle.std.specs.List.{AllByRecursion, filter, position_or_len}
+use Rattle.std.specs.Prelude.{◌≡◌, ◌<◌, ◌≤◌, ◌++◌, ℕ, true, List, length, map, slice_index_or}
+use Rattle.std.specs.List.{AllByRecursion, position_or_len}
 use Rattle.crgc_ids.specs.Actor.{Actor}
 use Rattle.crgc_ids.specs.declared.rising.ActorCount.{ActorCount}
 use Rattle.crgc_ids.specs.declared.rising.PairCount.{PairCount}
@@ -8,7 +8,8 @@ use Rattle.history_model.specs.declared.records.StateRow.{StateRow}
 use Rattle.history_model.specs.Ledgers.{pair_names}
 use Rattle.edge_table.specs.Table.{Edges, edge_at, same_pair}
 use Rattle.edge_table.specs.declared.table.Edge.{Edge}
-use Rattle.shadow_table.specs.Shadows.{is_named, place_in}
+use Rattle.shadow_table.specs.Shadows.{Shadows, is_named, place_in, shadow_at}
+use Rattle.shadow_table.specs.declared.table.Shadow.{Shadow}
 use Rattle.shadow_rows.specs.Pairs.{edge_between, has_pair}
 
 abbrev pub no_actor : Actor
@@ -26,6 +27,14 @@ pub record AreTabled (names : List Actor) (edges : Edges) : Type 0 where
   pub owner : (k : ℕ) → k < length edges.pairs → (edge_at edges k).owner ≡ place_in names (pair_at edges.pairs k).0
   pub target : (k : ℕ) → k < length edges.pairs → (edge_at edges k).target ≡ place_in names (pair_at edges.pairs k).1
 
+-- a table that begins with another, and has blank shadows of more actors
+pub record ExtendsShadows (old new : Shadows) : Type 0 where
+  pub more : List Actor
+  pub more_shadows : List Shadow
+  pub names : new.names ≡ old.names ++ more
+  pub shadows : new.shadows ≡ old.shadows ++ more_shadows
+  pub same : (a : Actor) → shadow_at new a ≡ shadow_at old a
+
 -- edges that begin with others, and have more of which each has count 0
 pub record ExtendsEdges (old new : Edges) : Type 0 where
   pub more : List (Actor × Actor)
@@ -33,10 +42,6 @@ pub record ExtendsEdges (old new : Edges) : Type 0 where
   pub pairs : new.pairs ≡ old.pairs ++ more
   pub edges : new.edges ≡ old.edges ++ more_edges
   pub count : (b a : Actor) → (edge_between new b a).count ≡ (edge_between old b a).count
-
--- both actors of each row are named
-abbrev pub ArePairsNamed : List Actor → List PairCount → Type 0
-ArePairsNamed names rows = AllByRecursion (λ r. (is_named names r.owner ≡ true) × (is_named names r.target ≡ true)) rows
 
 -- each row's pair is there
 abbrev pub ArePairs : List (Actor × Actor) → List PairCount → Type 0
@@ -52,10 +57,6 @@ pub record AreNumbered (t : Edges) (rows : List PairCount) (numbers : List ℕ) 
 abbrev pub row_names : List StateRow → List ActorCount → List PairCount → List PairCount → List Actor
 row_names states sent created released =
     map (λ r. r.actor) states ++ (map (λ r. r.actor) sent ++ (pair_names created ++ pair_names released))
-
--- those of the actors that are not named
-abbrev pub unnamed : List Actor → List Actor → List Actor
-unnamed names actors = filter (λ a. not (is_named names a)) actors
 
 -- each count of the rows is below 2^32, as its type is
 pub record AreCounts (states : List StateRow) (sent : List ActorCount) (created released : List PairCount) : Type 0 where

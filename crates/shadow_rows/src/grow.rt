@@ -1,13 +1,15 @@
 //! Edges that are added, each with count 0.
-ghost use Rattle.std.specs.Prelude.{◌≡◌, ◌<◌, ◌≤◌, ◌||◌, true, IfOk, IfSome, OnErr, OnOk, length, take};
+ghost use Rattle.std.specs.Prelude.{◌≡◌, ◌∷◌, ◌<◌, ◌≤◌, ◌||◌, [], true, IfOk, OnOk, length, take};
+ghost use Rattle.std.specs.List.{AllByRecursion, list_any, position_or_len};
 ghost use Rattle.edge_table.specs.Table.{Edges, same_pair};
 ghost use Rattle.crgc_ids.specs.Actor.{Actor, same_actor};
-ghost use Rattle.std.specs.List.{list_any, position_or_len};
-ghost use Rattle.shadow_table.specs.Shadows.{ExtendsShadows, first_of, is_named, place_in};
+ghost use Rattle.history_model.specs.Ledgers.{pair_names};
+ghost use Rattle.shadow_table.specs.Shadows.{first_of, is_named, place_in};
 ghost use Rattle.shadow_rows.specs.Pairs.{has_pair};
-ghost use Rattle.shadow_rows.specs.Tabled.{AreCounts, AreNumbered, ArePairsNamed, AreTabled, ExtendsEdges, row_names};
+ghost use Rattle.shadow_rows.specs.Rows.{NamesRows};
+ghost use Rattle.shadow_rows.specs.Tabled.{AreCounts, AreNumbered, AreTabled, ExtendsEdges, ExtendsShadows, row_names};
 
-use crate::names::new_names;
+use crate::names::{name, name_after, name_counts, name_states, named_in_pair};
 use crgc_ids::{ActorCount, ActorId, NoMemory, PairCount};
 use edge_table::EdgeTable;
 use history_model::StateRow;
@@ -21,62 +23,51 @@ pub struct RowNumbers {
     pub released: Vec<u32>,
 }
 
-/// The edge between the actors is there, and this is its number. After `NoMemory` all is as before. At most 2 * 8 looks at lists,
-/// and where that does not tell, logarithmic time; amortized.
+/// The target is named, and the edge to it from the owner, who is named and has this place, is there; this is its number. After
+/// `NoMemory` the target may be named. At most 2 * 8 looks at lists, and where that does not tell, logarithmic time; amortized.
 fn add_pair(
+    shadows: &mut ShadowTable,
     edges: &mut EdgeTable,
-    shadows: &ShadowTable,
     owner: ActorId,
     target: ActorId,
     from: u32,
 ) -> Result<u32, NoMemory>
-    requires tabled { AreTabled shadows.now.names edges.old }
-    requires owner { is_named shadows.now.names owner ≡ true }
-    requires from { from ≡ place_in shadows.now.names owner }
-    requires target { is_named shadows.now.names target ≡ true }
+    requires tabled { AreTabled shadows.old.names edges.old }
+    requires owner { is_named shadows.old.names owner ≡ true }
+    requires from { from ≡ place_in shadows.old.names owner }
     ensures there { OnOk result (has_pair edges.new.pairs owner target ≡ true) }
     ensures number { IfOk result (λ number. number ≡ position_or_len (same_pair (owner, target)) edges.new.pairs) }
     ensures within { IfOk result (λ number. number < length edges.new.edges) }
-    ensures tabled { AreTabled shadows.now.names edges.new }
+    ensures named { OnOk result (NamesRows shadows.old.names shadows.new.names (target ∷ [])) }
+    ensures tabled { OnOk result (AreTabled shadows.new.names edges.new) }
+    ensures shadows { ExtendsShadows shadows.old shadows.new }
     ensures extends { ExtendsEdges edges.old edges.new }
-    ensures places { edges.new.places ≡ edges.old.places }
+    ensures places { edges.old.places ≤ edges.new.places }
 {
+    let to = name(shadows, edges, target)?;
     let _edges = edges.edge_count();
-    let to = shadows.place_of(target).unwrap();
     if let Some(number) = edges.number_of(owner, target, from, to) {
         return Ok(number);
     }
     edges.add(owner, target, from, to)
 }
 
-/// The place of the actor, which is named. The last actor that was asked for is told with its place.
-fn place_after(shadows: &ShadowTable, last: Option<(ActorId, u32)>, actor: ActorId) -> u32
-    requires named { is_named shadows.now.names actor ≡ true }
-    requires last { IfSome last (λ l. l.1 ≡ place_in shadows.now.names l.0) }
-    ensures { result ≡ place_in shadows.now.names actor }
-{
-    if let Some((asked, place)) = last {
-        if asked == actor {
-            return place;
-        }
-    }
-    shadows.place_of(actor).unwrap()
-}
-
-/// The edges between the actors of the rows are there, and these are their numbers. After `NoMemory` some of them may be. For
-/// each row at most 2 * 8 looks at lists, and where that does not tell, time logarithmic in their number; amortized.
+/// The actors of the rows are named, and the edges between them are there; these are their numbers. After `NoMemory` some of them
+/// may be. For each row at most 2 * 8 looks at lists, and where that does not tell, time logarithmic in their number; amortized.
 pub fn add_pairs(
     alloc: Global,
+    shadows: &mut ShadowTable,
     edges: &mut EdgeTable,
-    shadows: &ShadowTable,
     rows: &[PairCount],
 ) -> Result<Vec<u32>, NoMemory>
-    requires tabled { AreTabled shadows.now.names edges.old }
-    requires named { ArePairsNamed shadows.now.names rows.now }
+    requires tabled { AreTabled shadows.old.names edges.old }
     ensures ok { IfOk result (λ numbers. AreNumbered edges.new rows.now numbers.items) }
-    ensures tabled { AreTabled shadows.now.names edges.new }
+    ensures named { OnOk result (NamesRows shadows.old.names shadows.new.names (pair_names rows.now)) }
+    ensures fits { OnOk result (AllByRecursion (λ r. r.count < 4294967296) rows.now) }
+    ensures tabled { OnOk result (AreTabled shadows.new.names edges.new) }
+    ensures shadows { ExtendsShadows shadows.old shadows.new }
     ensures extends { ExtendsEdges edges.old edges.new }
-    ensures places { edges.new.places ≡ edges.old.places }
+    ensures places { edges.old.places ≤ edges.new.places }
 {
     let mut numbers = Vec::new(alloc);
     if numbers.reserve(rows.len()).is_err() {
@@ -84,25 +75,13 @@ pub fn add_pairs(
     }
     let mut last = None;
     for row in rows {
-        let from = place_after(shadows, last, row.owner);
-        last = Some((row.owner, from));
-        let number = add_pair(edges, shadows, row.owner, row.target, from)?;
+        let (owner, target) = named_in_pair(*row);
+        let from = name_after(shadows, edges, last, owner)?;
+        last = Some((owner, from));
+        let number = add_pair(shadows, edges, owner, target, from)?;
         numbers.push_reserved(number);
     }
     Ok(numbers)
-}
-
-/// There are at least so many places. After `NoMemory` there may be some more than before.
-pub fn add_places(edges: &mut EdgeTable, places: u32) -> Result<(), NoMemory>
-    ensures ok { OnOk result (places ≤ edges.new.places) }
-    ensures grown { edges.old.places ≤ edges.new.places }
-    ensures pairs { edges.new.pairs ≡ edges.old.pairs }
-    ensures edges { edges.new.edges ≡ edges.old.edges }
-{
-    for _ in edges.place_count()..places {
-        edges.add_place()?;
-    }
-    Ok(())
 }
 
 /// Only the first so many edges stay.
@@ -114,26 +93,6 @@ pub fn cut_back_edges(edges: &mut EdgeTable, count: u32)
     while edges.edge_count() > count {
         edges.remove_last_edge();
     }
-}
-
-/// The actors that the rows name are named, in their order, each with a place among the edges. After `NoMemory` some of them
-/// may be.
-fn add_names(
-    shadows: &mut ShadowTable,
-    edges: &mut EdgeTable,
-    names: &[ActorId],
-) -> Result<(), NoMemory>
-    requires tabled { AreTabled shadows.old.names edges.old }
-    ensures ok { OnOk result ((a : Actor) → is_named shadows.new.names a ≡ (is_named shadows.old.names a || list_any (same_actor a) names.now)) }
-    ensures tabled { OnOk result (AreTabled shadows.new.names edges.new) }
-    ensures shadows { ExtendsShadows shadows.old shadows.new }
-    ensures places { edges.old.places ≤ edges.new.places }
-    ensures pairs { edges.new.pairs ≡ edges.old.pairs }
-    ensures edges { edges.new.edges ≡ edges.old.edges }
-{
-    shadows.name_all(names)?;
-    add_places(edges, shadows.place_count())?;
-    Ok(())
 }
 
 /// The actors that the rows name are named, in the order of the rows, and the pairs of the rows are there; the answer has the
@@ -159,10 +118,10 @@ pub fn grow(
     ensures edges { ExtendsEdges edges.old edges.new }
     ensures places { edges.old.places ≤ edges.new.places }
 {
-    let names = new_names(alloc, shadows, states, sent, created, released)?;
-    add_names(shadows, edges, names.as_slice())?;
-    let created = add_pairs(alloc, edges, shadows, created)?;
-    let released = add_pairs(alloc, edges, shadows, released)?;
+    name_states(shadows, edges, states)?;
+    name_counts(shadows, edges, sent)?;
+    let created = add_pairs(alloc, shadows, edges, created)?;
+    let released = add_pairs(alloc, shadows, edges, released)?;
     Ok(RowNumbers { created, released })
 }
 

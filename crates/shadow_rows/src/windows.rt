@@ -5,12 +5,12 @@ ghost use Rattle.crgc_ids.specs.Actor.{Actor};
 ghost use Rattle.history_model.specs.declared.records.Bulletin.TheVariants as bulletins;
 ghost use Rattle.history_model.specs.Ledgers.{IsInOrder, ledger_names, no_rows, window_ledger};
 ghost use Rattle.delta_graph.specs.Sums.{CountsFit};
-ghost use Rattle.shadow_table.specs.Shadows.{ExtendsShadows, is_named};
+ghost use Rattle.shadow_table.specs.Shadows.{is_named};
 ghost use Rattle.undo_log.specs.Told.{Notes, admitted_from};
 ghost use Rattle.undo_log.specs.declared.corrections.Side.TheVariants as sides;
 ghost use Rattle.shadow_rows.specs.Rows.{AddsLog, AddsRows, AreSmall, IsLogCovered, NamesRows};
 ghost use Rattle.shadow_rows.specs.Pairs.{KeepsEnds};
-ghost use Rattle.shadow_rows.specs.Tabled.{AreNumbered, AreTabled, ExtendsEdges};
+ghost use Rattle.shadow_rows.specs.Tabled.{AreNumbered, AreTabled, ExtendsEdges, ExtendsShadows};
 ghost use Rattle.shadow_rows.specs.Touched.{NamesMore};
 
 use crate::count::count_admitted;

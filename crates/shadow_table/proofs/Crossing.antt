@@ -1,6 +1,6 @@
 -- A table of shadows may go to another thread.
 use denote.Param.Send.{IsSend, sendable}
-use Rattle.std.proofs.Crossing.{crosses, frees}
+use Rattle.std.proofs.Crossing.{crosses}
 use Rattle.shadow_table.specs.contracts.numbers.ActorNumbers as ActorNumbers
 use Rattle.shadow_table.specs.contracts.table.ShadowTable as ShadowTable
 

@@ -1,6 +1,6 @@
 -- Tables of shadows.
-use Rattle.std.proofs.Common.{◌≡◌, ◌+◌, ◌<◌, ℕ, Bool, true, false, cond, eqb, List, [], ◌∷◌, ◌++◌, Option, Some, length, get_or, set, drop, take, refl, sym, ◌∙◌, ap, append_assoc, append-nil, arith}
-use Rattle.std.proofs.lemmas.List.{drop_more, get_or_default, take_more}
+use Rattle.std.proofs.Common.{◌≡◌, ◌+◌, ◌<◌, ℕ, Bool, true, false, cond, eqb, List, [], ◌∷◌, ◌++◌, Option, Some, length, get_or, set, take, refl, sym, ◌∙◌, ap, arith}
+use Rattle.std.proofs.lemmas.List.{get_or_default, take_more}
 use Rattle.std.specs.Option.{option_or}
 use Rattle.std.specs.Prelude.{unwrap_or}
 use Rattle.crgc_ids.specs.Actor.{Actor, same_actor}
@@ -8,9 +8,9 @@ use Rattle.crgc_ids.proofs.ActorLaws.{same_actor-decides}
 use Rattle.history_model.specs.declared.records.StateRow.{StateRow}
 use Rattle.history_model.specs.Facts.{Flags}
 use Rattle.history_model.specs.Ledgers.{received_total, row_flags, state_flags}
-use Rattle.shadow_table.specs.Shadows.{ChangesShadow, ExtendsShadows, Shadows, blank, flag_pair, is_named, place_in, with_name, with_names, with_state, with_states}
+use Rattle.shadow_table.specs.Shadows.{ChangesShadow, blank, flag_pair, place_in, with_state, with_states}
 use Rattle.shadow_table.specs.declared.table.Shadow.{Shadow}
-use Rattle.shadow_table.proofs.KeyedLemmas.{found-changed, found-pushed}
+use Rattle.shadow_table.proofs.KeyedLemmas.{found-changed}
 use Rattle.shadow_table.proofs.RowLemmas.{total-more}
 
 -- the shadow at an actor's place is changed
@@ -30,31 +30,6 @@ shadow-changed names shadows actor place was now change long is inside read chan
       found-changed same_actor same_actor-decides blank names shadows actor place now inside is (omega arith) a ∙ case refl
       );
 }
-
-pub extends-self : (t : Shadows) → ExtendsShadows t t
-extends-self t = record { more = []; more_shadows = []; names = sym (append-nil t.names); shadows = sym (append-nil t.shadows); same = λ a. refl }
-
--- a named actor is blank
-pub name-extends : (t : Shadows) (a : Actor) → length t.shadows ≡ length t.names → ExtendsShadows t (with_name t a)
-name-extends t a long =
-    elim (is_named t.names a) as (λ b. ExtendsShadows t (cond b t (record { names = t.names ++ a ∷ []; shadows = t.shadows ++ blank ∷ [] }))) [
-      | true ↦ extends-self t
-      | false ↦ record { more = a ∷ []; more_shadows = blank ∷ []; names = refl; shadows = refl; same = found-pushed same_actor same_actor-decides blank (λ s. s) t.names t.shadows a blank refl long }
-    ]
-
-pub extends-more : (t u v : Shadows) → ExtendsShadows t u → ExtendsShadows u v → ExtendsShadows t v
-extends-more t u v first then = record {
-  more = first.more ++ then.more;
-  more_shadows = first.more_shadows ++ then.more_shadows;
-  names = then.names ∙ ap (λ ns. ns ++ then.more) first.names ∙ append_assoc t.names first.more then.more;
-  shadows = then.shadows ∙ ap (λ ss. ss ++ then.more_shadows) first.shadows ∙ append_assoc t.shadows first.more_shadows then.more_shadows;
-  same = λ a. then.same a ∙ first.same a;
-}
-
--- the actors from one on are named, that one first
-pub names-more : (t : Shadows) (actors : List Actor) (i : ℕ) (a : Actor) → i < length actors → a ≡ get_or actors i a → with_names t (drop i actors) ≡ with_names (with_name t a) (drop (i + 1) actors)
-names-more t actors i a inside is =
-    ap (with_names t) (drop_more actors i a inside ∙ ap (λ x. x ∷ drop (i + 1) actors) (sym is))
 
 -- ---- states
 

@@ -41,10 +41,6 @@ abbrev pub with_name : Shadows → Actor → Shadows
 with_name t a =
     if is_named t.names a then t else record { names = t.names ++ a ∷ []; shadows = t.shadows ++ blank ∷ [] }
 
-abbrev pub with_names : Shadows → List Actor → Shadows
-with_names t [] = t
-with_names t (a ∷ as_) = with_names (with_name t a) as_
-
 -- ---- what a row changes of a shadow
 
 abbrev pub with_told : ℕ → Shadow → Shadow
@@ -88,14 +84,6 @@ pub record ChangesShadow (old new : Shadows) (actor : Actor) (change : Shadow �
 pub record ChangesShadows (old new : Shadows) (change : Actor → Shadow → Shadow) : Type 0 where
   pub names : new.names ≡ old.names
   pub shadows : (a : Actor) → shadow_at new a ≡ change a (shadow_at old a)
-
--- a table that begins with another, and has blank shadows of more actors
-pub record ExtendsShadows (old new : Shadows) : Type 0 where
-  pub more : List Actor
-  pub more_shadows : List Shadow
-  pub names : new.names ≡ old.names ++ more
-  pub shadows : new.shadows ≡ old.shadows ++ more_shadows
-  pub same : (a : Actor) → shadow_at new a ≡ shadow_at old a
 
 -- the first n actors of the table
 abbrev pub first_of : ℕ → Shadows → Shadows

@@ -5,8 +5,8 @@ ghost use Rattle.std.specs.List.{AllByRecursion, IsDistinct};
 ghost use Rattle.crgc_ids.specs.Actor.{Actor, same_actor};
 ghost use Rattle.history_model.specs.Ledgers.{actor_total, received_total};
 ghost use Rattle.shadow_table.specs.Numbers.{HasRoomFor, number_of};
-ghost use Rattle.shadow_table.specs.Shadows.{ChangesShadow, ChangesShadows, ExtendsShadows, as_dropped, blank, dropped_count, first_of, is_named, no_shadows};
-ghost use Rattle.shadow_table.specs.Shadows.{place_in, shadow_at, with_admitted, with_name, with_names, with_state, with_states, with_told, without_told};
+ghost use Rattle.shadow_table.specs.Shadows.{ChangesShadow, ChangesShadows, as_dropped, blank, dropped_count, first_of, is_named, no_shadows};
+ghost use Rattle.shadow_table.specs.Shadows.{place_in, shadow_at, with_admitted, with_name, with_state, with_states, with_told, without_told};
 
 use crate::numbers::ActorNumbers;
 use crgc_ids::{ActorCount, ActorId, NoMemory, NodeId};
@@ -225,17 +225,6 @@ impl ShadowTable {
             flags: None,
             dropped: false,
         });
-        Ok(())
-    }
-
-    /// The actors are named, one after another. After `NoMemory` some of them may be. The time of `name` for each.
-    pub fn name_all(&mut self, actors: &[ActorId]) -> Result<(), NoMemory>
-        ensures ok { OnOk result (self.new ≡ with_names self.old actors.now) }
-        ensures extends { ExtendsShadows self.old self.new }
-    {
-        for actor in actors {
-            self.name(*actor)?;
-        }
         Ok(())
     }
 
