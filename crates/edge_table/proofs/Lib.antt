@@ -6,5 +6,6 @@ pub mod ListedLemmas
 pub mod PlaceLemmas
 pub mod TableLemmas
 pub mod Crossing
+mod PageLemmas
 mod PartitionLemmas
 mod PositiveLemmas

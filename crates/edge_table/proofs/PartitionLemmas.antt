@@ -1,18 +1,15 @@
 -- An order in which the edges that count stand first, and what a call makes of it.
-use Rattle.std.proofs.Common.{◌&&◌, ◌||◌, ◌≡◌, ◌≢◌, ◌⊎◌, ◌<◌, ◌≤◌, ◌+◌, ◌-◌, ◌↔◌, ◌++◌, ℕ, zero, suc, Bool, true, false, List, [], ◌∷◌, Option, None, Some, get_or, length, take, refl, sym, ◌∙◌, ap, subst, inl, inr, arith, get_or-set_other, get_or-set_same, length-append}
+use Rattle.std.proofs.Common.{◌&&◌, ◌||◌, ◌≡◌, ◌≢◌, ◌⊎◌, ◌<◌, ◌≤◌, ◌+◌, ◌↔◌, ◌++◌, ℕ, zero, suc, Bool, true, false, List, [], ◌∷◌, Option, None, Some, get_or, length, take, refl, sym, ◌∙◌, ap, subst, inl, inr, arith, get_or-set_other, get_or-set_same, length-append}
 use Rattle.std.proofs.Math.ListN.{set, length-set, get_or-append}
 use Rattle.std.proofs.Math.Seq.{get_or-append_seam}
-use Rattle.std.proofs.lemmas.Bool.{cases_eq, cases_lt, eq-eqb, false≢true, ne_eqb, or_left, or_right}
-use Rattle.std.proofs.lemmas.List.{get_or_append_left, get_or-append_right, get_or_default, get_or_past, length-map, take_all}
+use Rattle.std.proofs.lemmas.Bool.{cases_eq, cases_lt, eq-eqb, false≢true, ne_eqb, or_right}
+use Rattle.std.proofs.lemmas.List.{length-map}
 use Rattle.std.proofs.lemmas.List.Folds.{list_any_more}
 use Rattle.std.proofs.lemmas.Option.{none-some}
-use Rattle.std.specs.Box.{box_value}
-use Rattle.std.specs.Global.{Box}
-use Rattle.std.specs.List.{AppendsResults, FoldsTo, list_any}
-use Rattle.std.specs.Option.{option_map}
+use Rattle.std.specs.List.{list_any}
 use Rattle.std.specs.Prelude.{nat_eq}
 use Rattle.crgc_ids.specs.Members.{IsAmong}
-use Rattle.edge_table.specs.Partition.{AreRising, CountsAt, IsExchanged, IsKeptOf, IsParted, Kept, Parted, kept_of, nth_end, nth_of, numbers_in}
+use Rattle.edge_table.specs.Partition.{AreRising, CountsAt, IsExchanged, IsKeptOf, IsParted, Parted, nth_end, nth_of, numbers_in}
 use Rattle.edge_table.specs.declared.positive.TheConstants.{MANY}
 use Rattle.edge_table.proofs.IndexLemmas.{among-at}
 
@@ -56,21 +53,6 @@ place-to numbers rising middle k inside low = elim (cases_lt middle k) [
   | inl before ↦ (let above = rising middle k before inside in absurd (omega arith))
   | inr after ↦ omega arith
 ]
-
--- no edge, and no order
-pub parted-none : (counts : ℕ → Bool) → IsParted [] counts (record { order = []; places = []; indices = []; front = 0 })
-parted-none counts = record {
-  long = refl;
-  placed = refl;
-  indexed = refl;
-  few = omega arith;
-  within = λ k less. absurd (omega arith);
-  inside = λ i less. absurd (omega arith);
-  there = λ k less. absurd (omega arith);
-  forth = λ k less. absurd (omega arith);
-  back = λ i less. absurd (omega arith);
-  first = λ k less. absurd (omega arith);
-}
 
 -- a number comes last
 pushed-last : (xs : List ℕ) (x n k : ℕ) → length xs ≡ n → k ≡ n → nth_of (xs ++ x ∷ []) k ≡ x
@@ -333,31 +315,6 @@ pub kept-short : (ends : List (ℕ × ℕ)) (counts : ℕ → Bool) (kept : Opti
 kept-short ends counts None short is = refl
 kept-short ends counts (Some s) short is = (let long = (is s refl).0 in absurd (omega arith))
 
--- what is read at an entry
-pub kept-read : (kept : Kept) (place : ℕ) (read : Option (Box Parted)) (b : Box Parted) → place < length kept → read ≡ get_or kept place read → read ≡ Some b → kept_of kept place ≡ Some b.value
-kept-read kept place read b inside at is = ap (option_map box_value) (get_or_default kept place None read inside ∙ sym at ∙ is)
-
--- an entry that is written
-pub kept-written : (kept : Kept) (place : ℕ) (is : Option (Box Parted)) → place < length kept → kept_of (set kept place is) place ≡ option_map box_value is
-kept-written kept place is inside = ap (option_map box_value) (get_or-set_same kept place is None inside)
-
--- entries of which nothing is kept, behind the others
-nothing-more : {F : Type 0} (step : F → Option (Box Parted) → F → Type 0) → ((f : F) (x : Option (Box Parted)) (g : F) → step f x g → x ≡ None) → (more : Kept) (f g : F) → FoldsTo step f more g
-    → (i : ℕ) → get_or more i None ≡ None
-nothing-more step none [] f g folds i = refl
-nothing-more step none (x ∷ more) f g (h, called, rest) zero = none f x h called
-nothing-more step none (x ∷ more) f g (h, called, rest) (suc i) = nothing-more step none more h g rest i
-
-pub kept-longer : {F : Type 0} {step : F → Option (Box Parted) → F → Type 0} (kept new : Kept) (count : ℕ) (f : F) → length kept ≤ count → AppendsResults step (take count kept) new f
-    → ((f : F) (x : Option (Box Parted)) (g : F) → step f x g → x ≡ None) → (p : ℕ) → kept_of new p ≡ kept_of kept p
-kept-longer {step} kept new count f few (more, last, is, folds) none p = ap (option_map box_value) (elim (cases_lt p (length kept)) [
-  | inl inside ↦ at ∙ get_or_append_left kept more None p inside
-  | inr beyond ↦ at ∙ get_or-append_right kept more (length kept) p None refl (omega arith) ∙ nothing-more step none more f last folds (p - length kept) ∙ sym (get_or_past kept p None (omega arith))
-])
-  where
-    at : get_or new p None ≡ get_or (kept ++ more) p None
-    at = ap (λ (xs : Kept). get_or xs p None) (is ∙ ap (λ (xs : Kept). xs ++ more) (take_all count kept few))
-
 -- ---- numbers that are looked at in turn
 
 or-false : (b : Bool) → (b || false) ≡ b
@@ -385,18 +342,3 @@ module _ (positive : ℕ → Bool) (numbers : List ℕ) where
     others = λ n apart. more i n inside ∙ ap (λ b. positive n && (list_any (nat_eq n) (take i numbers) || b)) (ne_eqb n (nth_of numbers i) apart)
         ∙ ap (λ b. positive n && b) (or-false (list_any (nat_eq n) (take i numbers)));
   }
-
-  -- none yet
-  pub so-far-none : (n : ℕ) → so_far 0 n ≡ false
-  so-far-none n = elim (positive n) as (λ b. (b && false) ≡ false) [ true ↦ refl | false ↦ refl ]
-
-  -- all of them
-  pub so-far-all : (i : ℕ) → length numbers ≤ i → (n : ℕ) → IsAmong n numbers → positive n ≡ so_far i n
-  so-far-all i all n among =
-      let there : list_any (nat_eq n) (take i numbers) ≡ true = ap (list_any (nat_eq n)) (take_all i numbers all) ∙ among-any numbers n among in
-      sym (ap (λ b. positive n && b) there ∙ and-true (positive n))
-    where
-      among-any : (xs : List ℕ) (x : ℕ) → IsAmong x xs → list_any (nat_eq x) xs ≡ true
-      among-any [] x h = absurd h
-      among-any (y ∷ ys) x (inl e) = or_left (nat_eq x y) (list_any (nat_eq x) ys) (eq-eqb x y e)
-      among-any (y ∷ ys) x (inr h) = or_right (nat_eq x y) (list_any (nat_eq x) ys) (among-any ys x h)

@@ -1,9 +1,10 @@
 -- Lists of edges, each by the place of its other end and its number, in which those that count stand first.
-use Rattle.std.specs.Prelude.{◌≡◌, ◌≢◌, ◌<◌, ◌≤◌, ◌↔◌, ℕ, Bool, true, List, Option, None, Some, length, map, slice_index_or, slice_set}
+use Rattle.std.specs.Prelude.{◌≡◌, ◌≢◌, ◌<◌, ◌≤◌, ◌/◌, ◌%◌, ◌↔◌, ℕ, Bool, true, List, [], Option, None, Some, length, map, slice_index_or, slice_set}
 use Rattle.std.specs.Box.{box_value}
 use Rattle.std.specs.Global.{Box}
 use Rattle.std.specs.List.{SwappedAt}
 use Rattle.std.specs.Option.{option_map}
+use Rattle.edge_table.specs.declared.pages.TheConstants.{PAGE}
 use Rattle.edge_table.specs.declared.positive.TheConstants.{MANY}
 
 -- the edges in an order, those that count first; for each of the order, at which place of the list it stands; for each of the list,
@@ -55,13 +56,21 @@ pub record CountsAt (old new : ℕ → Bool) (number : ℕ) (counts : Bool) : Ty
   pub here : new number ≡ counts
   pub others : (n : ℕ) → n ≢ number → new n ≡ old n
 
--- what is kept of each place, by place; of those beyond the end, nothing is
+-- what is kept of the places of a page, by index; of those beyond the end, nothing is
+abbrev pub KeptPage : Type 0
+KeptPage = List (Option (Box Parted))
+
+-- what is kept of each place, page by page
 abbrev pub Kept : Type 0
-Kept = List (Option (Box Parted))
+Kept = List KeptPage
+
+-- what is kept of the place with this index in a page
+abbrev pub kept_in : KeptPage → ℕ → Option Parted
+kept_in page index = option_map box_value (slice_index_or page index None)
 
 -- what is kept of a place
 abbrev pub kept_of : Kept → ℕ → Option Parted
-kept_of kept place = option_map box_value (slice_index_or kept place None)
+kept_of kept place = kept_in (slice_index_or kept (place / PAGE) []) (place % PAGE)
 
 -- it is right for the place's list, which is not short
 abbrev pub IsKeptOf : List (ℕ × ℕ) → (ℕ → Bool) → Option Parted → Type 0

@@ -6,6 +6,7 @@ mod ends;
 mod far_edges;
 pub mod laws;
 mod near;
+mod pages;
 mod partition;
 mod positive;
 mod table;

@@ -1,10 +1,11 @@
 //! The positive edges of places that have many edges.
-ghost use Rattle.std.specs.Prelude.{◌≡◌, ◌≢◌, ◌<◌, ◌^◌, ◌++◌, ℕ, Bool, List, true, false, None, Some, [], ◌∷◌, IfOk, IfSome, OnOk, length, take};
+ghost use Rattle.std.specs.Prelude.{◌≡◌, ◌≢◌, ◌<◌, ◌^◌, ◌++◌, ℕ, Bool, List, true, false, None, Some, [], ◌∷◌, IfOk, IfSome, length, take};
 ghost use Rattle.crgc_ids.specs.Members.{IsAmong};
 ghost use Rattle.edge_table.specs.Partition.{AreRising, CountsAt, IsKeptOf, IsParted, Parted, kept_of, numbers_in};
 ghost use Rattle.edge_table.specs.Table.{is_positive, is_positive_at};
 
 use crate::edge_list::EdgeList;
+use crate::pages::Pages;
 use crate::partition::Partition;
 use crate::table::Edge;
 use crgc_ids::NoMemory;
@@ -15,12 +16,11 @@ use std::marker::Model;
 pub const MANY: usize = 128;
 
 /// For places that have more than 128 edges at one end, these edges, the positive first, each by the place of its other end and its
-/// number. What is kept of a place stands in a vector at its index, with nothing for a place that has fewer edges or for which there
-/// was no memory; the vector ends with the highest place of which something was kept. Contracts see what is kept of each place.
+/// number. Nothing is kept of a place that has fewer edges or for which there was no memory. Contracts see what is kept of each place.
 #[derive(Drop)]
 pub struct PositiveEdges {
     alloc: Global,
-    places: Vec<Option<Box<Partition>>>,
+    places: Pages,
 }
 
 impl Model for PositiveEdges {
@@ -28,7 +28,7 @@ impl Model for PositiveEdges {
 
     ghost Value = { Kept };
 
-    ghost view = { λ p. p.places.items };
+    ghost view = { λ p. p.places };
 }
 
 impl PositiveEdges {
@@ -38,7 +38,7 @@ impl PositiveEdges {
     {
         PositiveEdges {
             alloc,
-            places: Vec::new(alloc),
+            places: Pages::new(alloc),
         }
     }
 
@@ -63,7 +63,7 @@ impl PositiveEdges {
             return;
         }
         if let Ok(partition) = partition_of(self.alloc, ends, edges) {
-            self.keep(place, partition);
+            self.places.put(place, partition);
         }
     }
 
@@ -77,10 +77,7 @@ impl PositiveEdges {
         ensures none { result ≡ false → kept_of self.new place ≡ None }
         ensures others { (p : ℕ) → p ≢ place → kept_of self.new p ≡ kept_of self.old p }
     {
-        let Some(kept) = self.places.get_mut(place as usize) else {
-            return false;
-        };
-        let Some(partition) = kept else {
+        let Some(partition) = self.places.get_mut(place) else {
             return false;
         };
         if partition.push(end).is_ok() {
@@ -90,45 +87,12 @@ impl PositiveEdges {
         false
     }
 
-    /// This is kept of the place from now on, if there is memory for it; before, nothing was. Constant time, or linear time in the
-    /// place where it is the first so high.
-    fn keep(&mut self, place: u32, partition: Partition)
-        requires { kept_of self.old place ≡ None }
-        ensures kept { (s : Parted) → kept_of self.new place ≡ Some s → s ≡ partition }
-        ensures others { (p : ℕ) → p ≢ place → kept_of self.new p ≡ kept_of self.old p }
-    {
-        let Ok(partition) = Box::new(self.alloc, partition) else {
-            return;
-        };
-        if self.reach(place).is_ok() {
-            self.places[place as usize] = Some(partition);
-        }
-    }
-
-    /// The vector has an entry for the place. After `NoMemory` it is as before. Constant time, or linear time in the place where it is
-    /// the first so high: all calls together take linear time in the highest place.
-    fn reach(&mut self, place: u32) -> Result<(), NoMemory>
-        ensures ok { OnOk result (place < length self.new) }
-        ensures kept { (p : ℕ) → kept_of self.new p ≡ kept_of self.old p }
-    {
-        let index = place as usize;
-        if index < self.places.len() {
-            return Ok(());
-        }
-        if self.places.resize_with(index + 1, || None).is_err() {
-            return Err(NoMemory);
-        }
-        Ok(())
-    }
-
     /// Nothing is kept of the place from now on. Constant time.
     pub fn forget(&mut self, place: u32)
         ensures none { kept_of self.new place ≡ None }
         ensures others { (p : ℕ) → p ≢ place → kept_of self.new p ≡ kept_of self.old p }
     {
-        if let Some(kept) = self.places.get_mut(place as usize) {
-            *kept = None;
-        }
+        self.places.clear(place);
     }
 
     /// The edge with this number, which is one of these of the place, is positive from now on, or is not. Constant time where these
@@ -146,10 +110,7 @@ impl PositiveEdges {
         if ends.len() <= MANY {
             return;
         }
-        let Some(kept) = self.places.get_mut(place as usize) else {
-            return;
-        };
-        let Some(partition) = kept else {
+        let Some(partition) = self.places.get_mut(place) else {
             return;
         };
         partition.set(ends, number, counts);
@@ -160,9 +121,9 @@ impl PositiveEdges {
         requires { (ends : List (ℕ × ℕ)) × (counts : ℕ → Bool) × IsKeptOf ends counts (kept_of self.now place) }
         ensures { IfSome result (λ ends. (s : Parted) × (kept_of self.now place ≡ Some s) × (ends.now ≡ take s.front s.order)) }
     {
-        match self.places.get(place as usize) {
-            Some(Some(partition)) => Some(partition.front()),
-            _ => None,
+        match self.places.get(place) {
+            Some(partition) => Some(partition.front()),
+            None => None,
         }
     }
 }
