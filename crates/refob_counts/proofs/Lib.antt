@@ -1,1 +1,3 @@
 pub mod CountsLemmas
+pub mod RisingLemmas
+pub mod TableLemmas

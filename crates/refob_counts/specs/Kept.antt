@@ -1,4 +1,4 @@
--- What is kept of the targets after the first: nothing, one with its count, or a map of several.
+-- What is kept of the targets after the first: nothing, one with its count, or a table of several.
 use Rattle.std.specs.Prelude.{ℕ, List, [], ◌∷◌}
 use Rattle.crgc_ids.specs.Actor.{Actor}
 use Rattle.refob_counts.specs.declared.others.Kept.{Kept}
@@ -7,4 +7,4 @@ use Rattle.refob_counts.specs.declared.others.Kept.TheVariants.{Nothing, One, Se
 abbrev pub counts_in : Kept → List (Actor × ℕ)
 counts_in Nothing = []
 counts_in (One one) = one ∷ []
-counts_in (Several counts) = counts.entries
+counts_in (Several table) = table.value

@@ -6,6 +6,9 @@ ghost use Rattle.crgc_ids.specs.Actor.{Actor, same_actor};
 ghost use Rattle.refob_counts.specs.Counts.{CountTheSame, IsCountChange, IsGain, count_of, is_free_for};
 
 mod others;
+mod rising;
+mod strays;
+mod table;
 
 use crate::others::OtherCounts;
 use crgc_ids::{ActorId, NoMemory};
@@ -46,7 +49,7 @@ impl RefCounts {
     }
 
     /// `count` references to the target are held more, and no other count changes. `NoMemory` comes only where none is held,
-    /// and all is then as before. Logarithmic time in the number of targets.
+    /// and all is then as before. Amortized logarithmic time in the number of targets.
     #[inline(always)]
     pub fn add(&mut self, target: ActorId, count: u32) -> Result<(), NoMemory>
         requires { count_of self.old target + count < 2 ^ 32 }
@@ -77,8 +80,8 @@ impl RefCounts {
     }
 
     /// One reference to each of these targets is held more, as often as it comes, and no other count changes. `NoMemory` comes
-    /// only where none is held of one of them; the counts are then as before. Logarithmic time in the number of targets for
-    /// each reference.
+    /// only where none is held of one of them; the counts are then as before. Amortized logarithmic time in the number of
+    /// targets for each reference.
     pub fn add_all(&mut self, targets: &[ActorId]) -> Result<(), NoMemory>
         requires { (a : Actor) → count_of self.old a + count_by (same_actor a) targets.now < 2 ^ 32 }
         ensures ok { OnOk result (IsGain self.old self.new targets.now) }

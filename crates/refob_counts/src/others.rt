@@ -1,21 +1,21 @@
 //! The references to further targets.
-ghost use Rattle.std.specs.Prelude.{◌≡◌, ◌+◌, ◌<◌, ◌^◌, [], ◌∷◌, IfOk, OnOk, OnErr};
-ghost use Rattle.refob_counts.specs.Counts.{IsCountChange, count_of};
+ghost use Rattle.std.specs.Prelude.{◌≡◌, ◌≢◌, ◌+◌, ◌<◌, ◌^◌, [], ◌∷◌, IfOk, OnOk, OnErr};
+ghost use Rattle.refob_counts.specs.Counts.{CountTheSame, IsCountChange, count_of};
 
+use crate::table::TargetTable;
 use crgc_ids::{ActorId, NoMemory};
 use std::alloc::Global;
-use std::collections::BTreeMap;
 use std::marker::Model;
 
-/// What is kept of further targets: nothing, one with its count in the value itself, or a map of several.
+/// What is kept of further targets: nothing, one with its count in the value itself, or a table of several.
 #[derive(Debug, Drop)]
 pub enum Kept {
     Nothing,
     One((ActorId, u32)),
-    Several(BTreeMap<ActorId, u32>),
+    Several(Box<TargetTable>),
 }
 
-/// How many references to each of the targets after the first are held. It keeps its allocator. A single one needs no map, and many
+/// How many references to each of the targets after the first are held. It keeps its allocator. A single one needs no table, and many
 /// actors have no more. Contracts see the list of the targets and their counts.
 #[derive(Debug, Drop)]
 pub struct OtherCounts {
@@ -44,8 +44,8 @@ impl OtherCounts {
         }
     }
 
-    /// The target has so many more from now on. `NoMemory` comes only where it had none, and all is then as before. Logarithmic
-    /// time in the number of targets.
+    /// The target has so many more from now on. `NoMemory` comes only where it had none, and all is then as before. Amortized
+    /// logarithmic time in the number of targets.
     pub fn add(&mut self, target: ActorId, count: u32) -> Result<(), NoMemory>
         requires { count_of self.old target + count < 2 ^ 32 }
         ensures ok { OnOk result (IsCountChange self.old self.new target (count_of self.old target + count)) }
@@ -53,7 +53,7 @@ impl OtherCounts {
         ensures absent { OnErr result (count_of self.old target ≡ 0) }
     {
         match &mut self.kept {
-            Kept::Several(counts) => add_in(counts, target, count),
+            Kept::Several(table) => table.add(target, count),
             _ => {
                 let held = self.held(target);
                 self.set(target, held + count)
@@ -61,8 +61,8 @@ impl OtherCounts {
         }
     }
 
-    /// The target has this count from now on. `NoMemory` comes only where it had none, and all is then as before. Logarithmic time
-    /// in the number of targets.
+    /// The target has this count from now on. `NoMemory` comes only where it had none, and all is then as before. Amortized
+    /// logarithmic time in the number of targets.
     pub fn set(&mut self, target: ActorId, count: u32) -> Result<(), NoMemory>
         ensures ok { OnOk result (IsCountChange self.old self.new target count) }
         ensures err { OnErr result (self.new ≡ self.old) }
@@ -78,11 +78,11 @@ impl OtherCounts {
                 if one.0 == target {
                     self.kept = Kept::One((target, count));
                 } else {
-                    self.kept = Kept::Several(map_of(self.alloc, one, (target, count))?);
+                    self.kept = Kept::Several(table_of(self.alloc, one, (target, count))?);
                 }
                 Ok(())
             }
-            Kept::Several(counts) => set_in(counts, target, count),
+            Kept::Several(table) => table.set(target, count),
         }
     }
 
@@ -97,7 +97,7 @@ impl OtherCounts {
                     self.kept = Kept::Nothing;
                 }
             }
-            Kept::Several(counts) => clear_in(counts, target),
+            Kept::Several(table) => table.clear(target),
         }
     }
 
@@ -108,69 +108,41 @@ impl OtherCounts {
         match &self.kept {
             Kept::Nothing => 0,
             Kept::One((actor, held)) => { if *actor == target { *held } else { 0 } }
-            Kept::Several(counts) => held_in(counts, target),
+            Kept::Several(table) => table.held(target),
         }
     }
 }
 
-/// A map of two targets and their counts.
-fn map_of(
+/// A table of two targets and their counts. The lower one is put in first, so that both rise.
+fn table_of(
+    alloc: Global,
+    one: (ActorId, u32),
+    other: (ActorId, u32),
+) -> Result<Box<TargetTable>, NoMemory>
+    requires { one.0 ≢ other.0 }
+    ensures { IfOk result (λ table. IsCountChange (one ∷ []) table.value other.0 other.1) }
+{
+    if one.0 < other.0 {
+        table_in_order(alloc, one, other)
+    } else {
+        table_in_order(alloc, other, one)
+    }
+}
+
+/// A table of these two targets and their counts, put in in this order.
+fn table_in_order(
     alloc: Global,
     first: (ActorId, u32),
     second: (ActorId, u32),
-) -> Result<BTreeMap<ActorId, u32>, NoMemory>
-    ensures { IfOk result (λ counts. IsCountChange (first ∷ []) counts.entries second.0 second.1) }
+) -> Result<Box<TargetTable>, NoMemory>
+    requires { first.0 ≢ second.0 }
+    ensures { IfOk result (λ table. CountTheSame (first ∷ second ∷ []) table.value) }
 {
-    let mut counts = BTreeMap::new(alloc);
-    set_in(&mut counts, first.0, first.1)?;
-    set_in(&mut counts, second.0, second.1)?;
-    Ok(counts)
-}
-
-/// The count of the target, 0 where the map has none.
-fn held_in(counts: &BTreeMap<ActorId, u32>, target: ActorId) -> u32
-    ensures { result ≡ count_of counts.now.entries target }
-{
-    match counts.get(&target) {
-        Some(count) => *count,
-        None => 0,
-    }
-}
-
-/// The target has so many more from now on. Where it had none yet, which is most often so, the map is searched once.
-fn add_in(counts: &mut BTreeMap<ActorId, u32>, target: ActorId, count: u32) -> Result<(), NoMemory>
-    requires { count_of counts.old.entries target + count < 2 ^ 32 }
-    ensures ok { OnOk result
-        (IsCountChange counts.old.entries counts.new.entries target (count_of counts.old.entries target + count)) }
-    ensures err { OnErr result (counts.new.entries ≡ counts.old.entries) }
-    ensures absent { OnErr result (count_of counts.old.entries target ≡ 0) }
-{
-    match counts.insert(target, count) {
-        Ok(None) => Ok(()),
-        Ok(Some(held)) => {
-            // the map has the target, so this takes no memory
-            let _ = counts.insert(target, held + count);
-            Ok(())
-        }
+    let mut table = TargetTable::new(alloc);
+    table.set(first.0, first.1)?;
+    table.set(second.0, second.1)?;
+    match Box::new(alloc, table) {
+        Ok(table) => Ok(table),
         Err(_) => Err(NoMemory),
     }
-}
-
-/// The target has this count from now on.
-fn set_in(counts: &mut BTreeMap<ActorId, u32>, target: ActorId, count: u32) -> Result<(), NoMemory>
-    ensures ok { OnOk result (IsCountChange counts.old.entries counts.new.entries target count) }
-    ensures err { OnErr result (counts.new.entries ≡ counts.old.entries) }
-    ensures absent { OnErr result (count_of counts.old.entries target ≡ 0) }
-{
-    match counts.insert(target, count) {
-        Ok(_) => Ok(()),
-        Err(_) => Err(NoMemory),
-    }
-}
-
-/// The map has the target no longer.
-fn clear_in(counts: &mut BTreeMap<ActorId, u32>, target: ActorId)
-    ensures { IsCountChange counts.old.entries counts.new.entries target 0 }
-{
-    counts.remove(&target);
 }

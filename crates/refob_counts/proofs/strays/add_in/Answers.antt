@@ -1,6 +1,6 @@
 use Rattle.std.proofs.Common.{◌+◌, Some, None, ◌∙◌, ap, arith, sym, zero-add}
 use Rattle.refob_counts.proofs.CountsLemmas.{changed_again, count_change, count_of-found, put_again}
-use Rattle.refob_counts.proofs.others.add_in.Goals as goal
+use Rattle.refob_counts.proofs.strays.add_in.Goals as goal
 
 pub overflow_add-held : goal.overflow_add-held
 overflow_add-held c =
