@@ -44,6 +44,13 @@ impl Finals {
         }
     }
 
+    /// How many nodes the cluster has.
+    pub fn nodes(&self) -> u8
+        ensures { result ≡ self.now.nodes }
+    {
+        self.nodes
+    }
+
     /// The Final of the link between the two nodes is noted, once or again. No removed and no lost node is given up.
     /// Constant time.
     pub fn note_final(&mut self, from: NodeId, at: NodeId)

@@ -1,5 +1,5 @@
 -- What the log takes in, and what is cut back.
-use Rattle.std.proofs.Common.{◌≡◌, ◌+◌, ◌<◌, ◌==◌, ◌++◌, ℕ, Bool, true, false, cond, List, [], ◌∷◌, Option, Some, None, length, take, refl, sym, ◌∙◌, ap, inl, inr, arith, sum_by}
+use Rattle.std.proofs.Common.{◌≡◌, ◌+◌, ◌<◌, ◌==◌, ◌++◌, ℕ, Bool, true, false, cond, List, [], ◌∷◌, Option, Some, None, length, take, refl, sym, ◌∙◌, ap, subst, inl, inr, arith, sum_by}
 use Rattle.std.proofs.Math.Seq.{take-append_seam}
 use Rattle.std.proofs.lemmas.Bool.{cases_eq, eq-eqb, ne_eqb}
 use Rattle.std.proofs.lemmas.List.Sums.{sum_by-cons}
@@ -114,7 +114,7 @@ covered-kept : (names more names' : List Actor) (pairs added pairs' : List (Acto
 covered-kept names more names' pairs added pairs' is is' None target h = named-kept names more names' target is h
 covered-kept names more names' pairs added pairs' is is' (Some owner) target h = pair-kept pairs pairs' added owner target is' h
 
-pub covered-added : (s t : Shadows) (e f : Edges) (log log' : List (List Correction)) (node : ℕ) (side : Side) (messages : List ActorCount) (rows : List PairCount) (more : List Actor) (added : List (Actor × Actor)) → t.names ≡ s.names ++ more → f.pairs ≡ e.pairs ++ added → AllByRecursion (λ r. is_named t.names r.actor ≡ true) messages → ArePairs f.pairs rows → Notes log log' node side messages rows → IsLogCovered s e log → IsLogCovered t f log'
+covered-added : (s t : Shadows) (e f : Edges) (log log' : List (List Correction)) (node : ℕ) (side : Side) (messages : List ActorCount) (rows : List PairCount) (more : List Actor) (added : List (Actor × Actor)) → t.names ≡ s.names ++ more → f.pairs ≡ e.pairs ++ added → AllByRecursion (λ r. is_named t.names r.actor ≡ true) messages → ArePairs f.pairs rows → Notes log log' node side messages rows → IsLogCovered s e log → IsLogCovered t f log'
 covered-added s t e f log log' node side messages rows more added is is' named there notes covered n owner target some =
     elim (cases_eq n node) [
       | inl same ↦ (
@@ -135,6 +135,14 @@ covered-added s t e f log log' node side messages rows more added is is' named t
     both : (side : Side) → Notes log log' node side messages rows → (owner : Option Actor) (target : Actor) → told_by log' node owner target + admitted_from log' node owner target ≡ (told_by log node owner target + admitted_from log node owner target) + noted_count owner target messages rows
     both sides.Told notes owner target = (let here = notes.here.noted owner target in let other = notes.here.others owner target in omega (arith, here, other))
     both sides.Admitted notes owner target = (let here = notes.here.noted owner target in let other = notes.here.others owner target in omega (arith, here, other))
+
+-- whether the bulletin is logged or not, what the log counts is there
+pub covered-logged : (logs : Bool) (s t : Shadows) (e f : Edges) (log log' : List (List Correction)) (node : ℕ) (side : Side) (messages : List ActorCount) (rows : List PairCount) (more : List Actor) (added : List (Actor × Actor)) → t.names ≡ s.names ++ more → f.pairs ≡ e.pairs ++ added → AllByRecursion (λ r. is_named t.names r.actor ≡ true) messages → ArePairs f.pairs rows → (logs ≡ true → Notes log log' node side messages rows) → (logs ≡ false → log' ≡ log) → IsLogCovered s e log → IsLogCovered t f log'
+covered-logged true s t e f log log' node side messages rows more added is is' named there notes same covered =
+    covered-added s t e f log log' node side messages rows more added is is' named there (notes refl) covered
+covered-logged false s t e f log log' node side messages rows more added is is' named there notes same covered = λ n owner target some.
+    let before = subst (λ l. 0 < told_by l n owner target + admitted_from l n owner target) (same refl) some in
+    covered-kept s.names more t.names e.pairs added f.pairs is is' owner target (covered n owner target before)
 
 -- ---- what is cut back
 

@@ -1,5 +1,5 @@
 -- What rows add to shadows, edges and the log, what a lost node takes back, and what is kept of the parts.
-use Rattle.std.specs.Prelude.{◌≡◌, ◌==◌, ◌+◌, ◌<◌, ◌≤◌, ◌+ℤ◌, ◌-ℤ◌, ◌||◌, if◌then◌else◌, ℕ, Bool, List, Option, Some, None, pos}
+use Rattle.std.specs.Prelude.{◌≡◌, ◌==◌, ◌+◌, ◌<◌, ◌≤◌, ◌+ℤ◌, ◌-ℤ◌, ◌||◌, if◌then◌else◌, ℕ, Bool, true, false, List, Option, Some, None, pos}
 use Rattle.std.specs.List.{list_any}
 use Rattle.std.specs.Option.{option_or}
 use Rattle.crgc_ids.specs.Actor.{Actor, same_actor}
@@ -43,6 +43,11 @@ pub record AddsLog (node : ℕ) (b : Bulletin) (log log' : List (List Correction
       ≡ told_by log n owner target + (if n == node then noted_count owner target (own_rows b).sent (own_rows b).created else 0)
   pub admitted : (n : ℕ) (owner : Option Actor) (target : Actor) → admitted_from log' n owner target
       ≡ admitted_from log n owner target + noted_count owner target (link_rows (λ k. k == n) b).sent (link_rows (λ k. k == n) b).created
+
+-- the log with the bulletin where bulletins are logged, and as it was where none is
+pub record LogsIf (logs : Bool) (node : ℕ) (b : Bulletin) (log log' : List (List Correction)) : Type 0 where
+  pub noted : logs ≡ true → AddsLog node b log log'
+  pub same : logs ≡ false → log' ≡ log
 
 -- where a node is lost, what it told is taken back, and what others admitted from it is put in
 pub record Settles (node : ℕ) (log : List (List Correction)) (old new : Shadows) (was now : Edges) : Type 0 where

@@ -1,5 +1,5 @@
 //! Bulletins whose rows the shadows, the edges and the log take in.
-ghost use Rattle.std.specs.Prelude.{◌≡◌, ◌≤◌, true, Bool, Option, IfOk, OnErr, OnOk};
+ghost use Rattle.std.specs.Prelude.{◌≡◌, ◌≤◌, true, false, Bool, Option, IfOk, OnErr, OnOk};
 ghost use Rattle.std.specs.List.{AllByRecursion};
 ghost use Rattle.crgc_ids.specs.Actor.{Actor};
 ghost use Rattle.history_model.specs.declared.records.Bulletin.TheVariants as bulletins;
@@ -8,7 +8,7 @@ ghost use Rattle.delta_graph.specs.Sums.{CountsFit};
 ghost use Rattle.shadow_table.specs.Shadows.{is_named};
 ghost use Rattle.undo_log.specs.Told.{Notes, told_by};
 ghost use Rattle.undo_log.specs.declared.corrections.Side.TheVariants as sides;
-ghost use Rattle.shadow_rows.specs.Rows.{AddsLog, AddsRows, AreSmall, IsLogCovered, NamesRows};
+ghost use Rattle.shadow_rows.specs.Rows.{AddsRows, AreSmall, IsLogCovered, LogsIf, NamesRows};
 ghost use Rattle.shadow_rows.specs.Pairs.{KeepsEnds};
 ghost use Rattle.shadow_rows.specs.Tabled.{AreNumbered, AreTabled, ExtendsEdges, ExtendsShadows};
 ghost use Rattle.shadow_rows.specs.Touched.{NamesMore};
@@ -23,14 +23,15 @@ use shadow_table::ShadowTable;
 use std::alloc::Global;
 use undo_log::UndoLog;
 
-/// The actors and pairs of the Delta are there, and the log has its sends and its created pairs; the answer has the numbers of
-/// the pairs' edges. After `NoMemory` some of the actors and pairs may be there.
+/// The actors and pairs of the Delta are there, and where it is noted the log has its sends and its created pairs; the answer has
+/// the numbers of the pairs' edges. After `NoMemory` some of the actors and pairs may be there.
 fn prepare_delta(
     alloc: Global,
     shadows: &mut ShadowTable,
     edges: &mut EdgeTable,
     log: &mut UndoLog,
     delta: &Delta,
+    logs: bool,
 ) -> Result<RowNumbers, NoMemory>
     requires tabled { AreTabled shadows.old.names edges.old }
     requires small { (owner : Option Actor) (target : Actor) → told_by log.old delta.now.node owner target ≤ 4611686018427387904 }
@@ -39,7 +40,8 @@ fn prepare_delta(
     ensures created { IfOk result (λ numbers. AreNumbered edges.new delta.now.created numbers.created.items) }
     ensures released { IfOk result (λ numbers. AreNumbered edges.new delta.now.released numbers.released.items) }
     ensures tabled { OnOk result (AreTabled shadows.new.names edges.new) }
-    ensures noted { OnOk result (Notes log.old log.new delta.now.node sides.Told delta.now.sent delta.now.created) }
+    ensures noted { OnOk result (logs ≡ true → Notes log.old log.new delta.now.node sides.Told delta.now.sent delta.now.created) }
+    ensures same_log { logs ≡ false → log.new ≡ log.old }
     ensures shadows { ExtendsShadows shadows.old shadows.new }
     ensures edges { ExtendsEdges edges.old edges.new }
     ensures places { edges.old.places ≤ edges.new.places }
@@ -51,13 +53,15 @@ fn prepare_delta(
     let created = delta.created.as_slice();
     let released = delta.released.as_slice();
     let numbers = grow(alloc, shadows, edges, states, sent, created, released)?;
-    log.note_told(delta.node, &delta.sent, &delta.created)?;
+    if logs {
+        log.note_told(delta.node, &delta.sent, &delta.created)?;
+    }
     Ok(numbers)
 }
 
-/// The rows of the Delta are counted and noted, its sends and created pairs only where they count. After `NoMemory` all that
-/// is told of actors and pairs is as before. Amortized time in proportion to n log n for n rows, and logarithmic
-/// in the number of edges for each.
+/// The rows of the Delta are counted, its sends and created pairs only where they count, and noted in the log where `logs`
+/// says so. After `NoMemory` all that is told of actors and pairs is as before. Amortized time in proportion to n log n for n
+/// rows, and logarithmic in the number of edges for each.
 pub fn add_delta(
     alloc: Global,
     shadows: &mut ShadowTable,
@@ -65,13 +69,14 @@ pub fn add_delta(
     log: &mut UndoLog,
     delta: &Delta,
     counts: bool,
+    logs: bool,
 ) -> Result<(), NoMemory>
     requires tabled { AreTabled shadows.old.names edges.old }
     requires covered { IsLogCovered shadows.old edges.old log.old }
     requires small { AreSmall shadows.old edges.old }
     requires log_small { (owner : Option Actor) (target : Actor) → told_by log.old delta.now.node owner target ≤ 4611686018427387904 }
     ensures adds { OnOk result (AddsRows delta.now.node counts (delta_ledger delta.now) no_rows shadows.old shadows.new edges.old edges.new) }
-    ensures noted { OnOk result (AddsLog delta.now.node (bulletins.Delta delta.now) log.old log.new) }
+    ensures noted { OnOk result (LogsIf logs delta.now.node (bulletins.Delta delta.now) log.old log.new) }
     ensures named { OnOk result (NamesRows shadows.old.names shadows.new.names (ledger_names (delta_ledger delta.now))) }
     ensures more { OnOk result (NamesMore shadows.old.names shadows.new.names) }
     ensures fits { OnOk result (CountsFit (delta_ledger delta.now)) }
@@ -85,7 +90,7 @@ pub fn add_delta(
 {
     let places = shadows.place_count();
     let count = edges.edge_count();
-    match prepare_delta(alloc, shadows, edges, log, delta) {
+    match prepare_delta(alloc, shadows, edges, log, delta, logs) {
         Ok(numbers) => {
             count_delta(shadows, edges, delta, &numbers, counts);
             Ok(())

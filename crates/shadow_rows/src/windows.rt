@@ -1,5 +1,5 @@
 //! Windows and Finals whose rows the shadows, the edges and the log take in.
-ghost use Rattle.std.specs.Prelude.{◌≡◌, ◌≤◌, if◌then◌else◌, true, Bool, Option, IfOk, OnErr, OnOk};
+ghost use Rattle.std.specs.Prelude.{◌≡◌, ◌≤◌, if◌then◌else◌, true, false, Bool, Option, IfOk, OnErr, OnOk};
 ghost use Rattle.std.specs.List.{AllByRecursion};
 ghost use Rattle.crgc_ids.specs.Actor.{Actor};
 ghost use Rattle.history_model.specs.declared.records.Bulletin.TheVariants as bulletins;
@@ -8,7 +8,7 @@ ghost use Rattle.delta_graph.specs.Sums.{CountsFit};
 ghost use Rattle.shadow_table.specs.Shadows.{is_named};
 ghost use Rattle.undo_log.specs.Told.{Notes, admitted_from};
 ghost use Rattle.undo_log.specs.declared.corrections.Side.TheVariants as sides;
-ghost use Rattle.shadow_rows.specs.Rows.{AddsLog, AddsRows, AreSmall, IsLogCovered, NamesRows};
+ghost use Rattle.shadow_rows.specs.Rows.{AddsRows, AreSmall, IsLogCovered, LogsIf, NamesRows};
 ghost use Rattle.shadow_rows.specs.Pairs.{KeepsEnds};
 ghost use Rattle.shadow_rows.specs.Tabled.{AreNumbered, AreTabled, ExtendsEdges, ExtendsShadows};
 ghost use Rattle.shadow_rows.specs.Touched.{NamesMore};
@@ -22,14 +22,15 @@ use shadow_table::ShadowTable;
 use std::alloc::Global;
 use undo_log::UndoLog;
 
-/// The actors and pairs of the window are there, and the log has its messages and its carried pairs; the answer has the numbers
-/// of the pairs' edges. After `NoMemory` some of the actors and pairs may be there.
+/// The actors and pairs of the window are there, and where it is noted the log has its messages and its carried pairs; the answer
+/// has the numbers of the pairs' edges. After `NoMemory` some of the actors and pairs may be there.
 fn prepare_window(
     alloc: Global,
     shadows: &mut ShadowTable,
     edges: &mut EdgeTable,
     log: &mut UndoLog,
     window: &Window,
+    logs: bool,
 ) -> Result<RowNumbers, NoMemory>
     requires tabled { AreTabled shadows.old.names edges.old }
     requires small { (owner : Option Actor) (target : Actor) → admitted_from log.old window.now.from owner target ≤ 4611686018427387904 }
@@ -37,7 +38,8 @@ fn prepare_window(
     ensures fits { OnOk result (CountsFit (window_ledger window.now)) }
     ensures carried { IfOk result (λ numbers. AreNumbered edges.new window.now.carried numbers.created.items) }
     ensures tabled { OnOk result (AreTabled shadows.new.names edges.new) }
-    ensures noted { OnOk result (Notes log.old log.new window.now.from sides.Admitted window.now.messages window.now.carried) }
+    ensures noted { OnOk result (logs ≡ true → Notes log.old log.new window.now.from sides.Admitted window.now.messages window.now.carried) }
+    ensures same_log { logs ≡ false → log.new ≡ log.old }
     ensures shadows { ExtendsShadows shadows.old shadows.new }
     ensures edges { ExtendsEdges edges.old edges.new }
     ensures places { edges.old.places ≤ edges.new.places }
@@ -47,13 +49,15 @@ fn prepare_window(
     let messages = window.messages.as_slice();
     let carried = window.carried.as_slice();
     let numbers = grow(alloc, shadows, edges, &[], messages, carried, &[])?;
-    log.note_admitted(window.from, &window.messages, &window.carried)?;
+    if logs {
+        log.note_admitted(window.from, &window.messages, &window.carried)?;
+    }
     Ok(numbers)
 }
 
-/// The rows of the window are counted and noted; its messages and carried pairs count where `counts` says so, which is where
-/// the node from which they were admitted is lost. After `NoMemory` all that is told of actors and pairs is as before.
-/// Amortized time in proportion to n log n for n rows, and logarithmic in the number of edges for each.
+/// The rows of the window are counted, and noted in the log where `logs` says so; its messages and carried pairs count where
+/// `counts` says so, which is where the node from which they were admitted is lost. After `NoMemory` all that is told of actors
+/// and pairs is as before. Amortized time in proportion to n log n for n rows, and logarithmic in the number of edges for each.
 pub fn add_window(
     alloc: Global,
     shadows: &mut ShadowTable,
@@ -61,6 +65,7 @@ pub fn add_window(
     log: &mut UndoLog,
     window: &Window,
     counts: bool,
+    logs: bool,
 ) -> Result<(), NoMemory>
     requires tabled { AreTabled shadows.old.names edges.old }
     requires covered { IsLogCovered shadows.old edges.old log.old }
@@ -68,8 +73,8 @@ pub fn add_window(
     requires log_small { (owner : Option Actor) (target : Actor) → admitted_from log.old window.now.from owner target ≤ 4611686018427387904 }
     ensures adds { OnOk result ((told : Bool) → AddsRows window.now.at told no_rows (if counts then window_ledger window.now else no_rows)
         shadows.old shadows.new edges.old edges.new) }
-    ensures noted { OnOk result (AddsLog window.now.at (bulletins.Window window.now) log.old log.new) }
-    ensures noted_final { OnOk result (AddsLog window.now.at (bulletins.Final window.now) log.old log.new) }
+    ensures noted { OnOk result (LogsIf logs window.now.at (bulletins.Window window.now) log.old log.new) }
+    ensures noted_final { OnOk result (LogsIf logs window.now.at (bulletins.Final window.now) log.old log.new) }
     ensures named { OnOk result (NamesRows shadows.old.names shadows.new.names (ledger_names (window_ledger window.now))) }
     ensures more { OnOk result (NamesMore shadows.old.names shadows.new.names) }
     ensures fits { OnOk result (CountsFit (window_ledger window.now)) }
@@ -83,7 +88,7 @@ pub fn add_window(
 {
     let places = shadows.place_count();
     let count = edges.edge_count();
-    match prepare_window(alloc, shadows, edges, log, window) {
+    match prepare_window(alloc, shadows, edges, log, window, logs) {
         Ok(numbers) => {
             count_window(shadows, edges, window, numbers.created.as_slice(), counts);
             Ok(())

@@ -7,7 +7,7 @@ use Rattle.undo_log.specs.declared.corrections.Side.TheVariants as sides
 use Rattle.shadow_rows.specs.Rows.{NamesRows}
 use Rattle.shadow_rows.specs.Tabled.{ArePairs}
 use Rattle.shadow_rows.proofs.AddedLemmas.{adds-grown, covered-restored, small-grown, tabled-counted, tabled-restored}
-use Rattle.shadow_rows.proofs.LogLemmas.{covered-added, edges-cut, notes-delta, pairs-cut, shadows-cut}
+use Rattle.shadow_rows.proofs.LogLemmas.{covered-logged, edges-cut, notes-delta, pairs-cut, shadows-cut}
 use Rattle.shadow_rows.proofs.NamedLemmas.{sent-named, states-named}
 use Rattle.shadow_rows.proofs.add.add_delta.Goals as goal
 
@@ -30,7 +30,10 @@ returns-in-Ok-clause-adds c =
     adds-grown c.args.delta.now.node c.args.counts (delta_ledger c.args.delta.now) no_rows c.args.shadows.now c.prepare_delta.new.shadows c.count_delta.new.shadows c.args.edges.now c.prepare_delta.new.edges c.count_delta.new.edges c.prepare_delta.ensures.shadows c.prepare_delta.ensures.edges c.count_delta.ensures.adds
 
 pub returns-in-Ok-clause-noted : goal.returns-in-Ok-clause-noted
-returns-in-Ok-clause-noted c = notes-delta c.args.delta.now c.args.log.now c.prepare_delta.new.log c.in-Ok.ensures.noted
+returns-in-Ok-clause-noted c = record {
+  noted = λ t. notes-delta c.args.delta.now c.args.log.now c.prepare_delta.new.log (c.in-Ok.ensures.noted t);
+  same = c.prepare_delta.ensures.same_log;
+}
 
 pub returns-in-Ok-clause-named : goal.returns-in-Ok-clause-named
 returns-in-Ok-clause-named c =
@@ -47,11 +50,11 @@ returns-in-Ok-clause-covered c =
     let names = c.count_delta.ensures.names in
     let pairs = c.count_delta.ensures.ends.pairs in
     let sent = sent-named c.args.shadows.now.names c.prepare_delta.new.shadows.names d.states d.sent d.created d.released c.in-Ok.ensures.named in
-    covered-added c.args.shadows.now c.count_delta.new.shadows c.args.edges.now c.count_delta.new.edges c.args.log.now c.prepare_delta.new.log d.node sides.Told d.sent d.created grown.more more.more
+    covered-logged c.args.logs c.args.shadows.now c.count_delta.new.shadows c.args.edges.now c.count_delta.new.edges c.args.log.now c.prepare_delta.new.log d.node sides.Told d.sent d.created grown.more more.more
     (names ∙ grown.names) (pairs ∙ more.pairs)
     (subst (λ (ns : List Actor). AllByRecursion (λ r. is_named ns r.actor ≡ true) d.sent) (sym names) sent)
     (subst (λ (ps : List (Actor × Actor)). ArePairs ps d.created) (sym pairs) c.in-Ok.ensures.created.there)
-    c.in-Ok.ensures.noted c.requires.covered
+    c.in-Ok.ensures.noted c.prepare_delta.ensures.same_log c.requires.covered
 
 pub returns-in-Ok-clause-tabled : goal.returns-in-Ok-clause-tabled
 returns-in-Ok-clause-tabled c =

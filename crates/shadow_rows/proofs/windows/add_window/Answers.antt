@@ -7,7 +7,7 @@ use Rattle.undo_log.specs.declared.corrections.Side.TheVariants as sides
 use Rattle.shadow_rows.specs.Rows.{NamesRows}
 use Rattle.shadow_rows.specs.Tabled.{ArePairs}
 use Rattle.shadow_rows.proofs.AddedLemmas.{adds-grown, covered-restored, small-grown, tabled-counted, tabled-restored}
-use Rattle.shadow_rows.proofs.LogLemmas.{covered-added, edges-cut, notes-final, notes-window, pairs-cut, shadows-cut}
+use Rattle.shadow_rows.proofs.LogLemmas.{covered-logged, edges-cut, notes-final, notes-window, pairs-cut, shadows-cut}
 use Rattle.shadow_rows.proofs.NamedLemmas.{sent-named}
 use Rattle.shadow_rows.proofs.windows.add_window.Goals as goal
 
@@ -26,10 +26,16 @@ returns-in-Ok-clause-adds c = λ told.
     adds-grown w.at told no_rows (cond c.args.counts (window_ledger w) no_rows) c.args.shadows.now c.prepare_window.new.shadows c.count_window.new.shadows c.args.edges.now c.prepare_window.new.edges c.count_window.new.edges c.prepare_window.ensures.shadows c.prepare_window.ensures.edges (c.count_window.ensures.adds told)
 
 pub returns-in-Ok-clause-noted : goal.returns-in-Ok-clause-noted
-returns-in-Ok-clause-noted c = notes-window c.args.window.now c.args.log.now c.prepare_window.new.log c.in-Ok.ensures.noted
+returns-in-Ok-clause-noted c = record {
+  noted = λ t. notes-window c.args.window.now c.args.log.now c.prepare_window.new.log (c.in-Ok.ensures.noted t);
+  same = c.prepare_window.ensures.same_log;
+}
 
 pub returns-in-Ok-clause-noted_final : goal.returns-in-Ok-clause-noted_final
-returns-in-Ok-clause-noted_final c = notes-final c.args.window.now c.args.log.now c.prepare_window.new.log c.in-Ok.ensures.noted
+returns-in-Ok-clause-noted_final c = record {
+  noted = λ t. notes-final c.args.window.now c.args.log.now c.prepare_window.new.log (c.in-Ok.ensures.noted t);
+  same = c.prepare_window.ensures.same_log;
+}
 
 pub returns-in-Ok-clause-named : goal.returns-in-Ok-clause-named
 returns-in-Ok-clause-named c =
@@ -46,11 +52,11 @@ returns-in-Ok-clause-covered c =
     let names = c.count_window.ensures.names in
     let pairs = c.count_window.ensures.ends.pairs in
     let sent = sent-named c.args.shadows.now.names c.prepare_window.new.shadows.names [] d.messages d.carried [] c.in-Ok.ensures.named in
-    covered-added c.args.shadows.now c.count_window.new.shadows c.args.edges.now c.count_window.new.edges c.args.log.now c.prepare_window.new.log d.from sides.Admitted d.messages d.carried grown.more more.more
+    covered-logged c.args.logs c.args.shadows.now c.count_window.new.shadows c.args.edges.now c.count_window.new.edges c.args.log.now c.prepare_window.new.log d.from sides.Admitted d.messages d.carried grown.more more.more
     (names ∙ grown.names) (pairs ∙ more.pairs)
     (subst (λ (ns : List Actor). AllByRecursion (λ r. is_named ns r.actor ≡ true) d.messages) (sym names) sent)
     (subst (λ (ps : List (Actor × Actor)). ArePairs ps d.carried) (sym pairs) c.in-Ok.ensures.carried.there)
-    c.in-Ok.ensures.noted c.requires.covered
+    c.in-Ok.ensures.noted c.prepare_window.ensures.same_log c.requires.covered
 
 pub returns-in-Ok-clause-tabled : goal.returns-in-Ok-clause-tabled
 returns-in-Ok-clause-tabled c =
