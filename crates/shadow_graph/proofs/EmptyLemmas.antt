@@ -66,7 +66,7 @@ nothing-folded cl g few nodes links cut shadows pairs edges log =
             omega (arith, ints, here, made, brought, released)
             );
       };
-      log = record {
+      log = λ more. record {
         told = λ n below a. ap (told_total None a) (log n);
         created = λ n below b a. ap (told_total (Some b) a) (log n);
         admitted = λ n below a. ap (admitted_total None a) (log n) ∙ sym (none (is_sent_to a));

@@ -1,5 +1,5 @@
 -- What the graph keeps as nodes are lost, and what it stands for once a bulletin is folded.
-use Rattle.std.proofs.Common.{◌≡◌, ◌+◌, ◌<◌, ◌≤◌, ◌&&◌, ◌⊎◌, ◌↔◌, ℕ, Bool, true, false, cond, not, List, [], ◌∷◌, Result, Ok, Err, OnOk, length, take, refl, sym, ◌∙◌, ap, subst, arith, count_by}
+use Rattle.std.proofs.Common.{◌≡◌, ◌≢◌, ◌+◌, ◌<◌, ◌≤◌, ◌&&◌, ◌⊎◌, ◌↔◌, ℕ, Bool, true, false, cond, not, List, [], ◌∷◌, Result, Ok, Err, OnOk, length, take, refl, sym, ◌∙◌, ap, subst, arith, count_by}
 use Rattle.std.proofs.lemmas.Bool.{false≢true}
 use Rattle.std.proofs.lemmas.Int.{ints}
 use Rattle.std.proofs.lemmas.List.{take_all}
@@ -161,8 +161,8 @@ folds-delta d g h few long order inside takes same = folds-more d.node (bulletin
 pub folds-window : (w : Window) (g h : Graph) → g.finals.nodes ≤ 16 → length g.cut ≡ 16 → IsOrdered (bulletins.Window w) → w.at < g.finals.nodes → TakesIn w.at (bulletins.Window w) g h → h.finals ≡ g.finals → FoldsIn w.at (bulletins.Window w) g h
 folds-window w g h few long order inside takes same = folds-more w.at (bulletins.Window w) g h few long order inside (no-link-window w.at w) takes same
 
-pub folds-final : (w : Window) (g m h : Graph) → g.finals.nodes ≤ 16 → length g.cut ≡ 16 → IsOrdered (bulletins.Final w) → w.at < g.finals.nodes → TakesIn w.at (bulletins.Final w) g m → m.finals ≡ g.finals → ClosesLink w.from w.at m h → FoldsIn w.at (bulletins.Final w) g h
-folds-final w g m h few long order inside takes same closes =
+pub folds-final : (w : Window) (g m h : Graph) → g.finals.nodes ≤ 16 → length g.cut ≡ 16 → IsOrdered (bulletins.Final w) → w.at < g.finals.nodes → w.from < g.finals.nodes → w.from ≢ w.at → TakesIn w.at (bulletins.Final w) g m → m.finals ≡ g.finals → ClosesLink w.from w.at m h → FoldsIn w.at (bulletins.Final w) g h
+folds-final w g m h few long order inside from differ takes same closes =
     let o = w.at in
     let b : Bulletin = bulletins.Final w in
     let lost : lost_in m ≡ lost_in g = ap (λ (x : Noted). lost_nodes x.nodes (links_of x)) same in
@@ -170,7 +170,7 @@ folds-final w g m h few long order inside takes same closes =
     let noted : (l : ℕ × ℕ) → IsAmong l (links_of h.finals) ↔ ((l ≡ (w.from, o)) ⊎ IsAmong l (links_of g.finals)) = λ l. subst (λ (x : Noted). IsAmong l (links_of h.finals) ↔ ((l ≡ (w.from, o)) ⊎ IsAmong l (links_of x))) same (closes.links l) in
     let nodes = closes.nodes ∙ ap (λ (x : Noted). x.nodes) same in
     record {
-      stands = λ cl f n tells stands. graph-final cl f o w.from b n g m h (subst (λ k. k ≤ 16) stands.nodes few) (subst (λ k. o < k) stands.nodes inside) (omega arith) tells order (link-final o w n tells) takes same nodes noted closes.cut closes.log closes.names counts stands;
+      stands = λ cl f n tells stands. graph-final cl f o w.from b n g m h (subst (λ k. k ≤ 16) stands.nodes few) (subst (λ k. o < k) stands.nodes inside) (subst (λ k. w.from < k) stands.nodes from) differ (omega arith) tells order (link-final o w n tells) takes same nodes noted closes.cut closes.log closes.names counts stands;
       names = subst (λ ns. NamesRows g.shadows.names ns (ledger_names (bulletin_ledger b))) (sym closes.names) takes.names;
       more = (takes.more.0, closes.names ∙ takes.more.1);
       leaves = λ a apart none. (

@@ -1,6 +1,6 @@
 -- The graph stands for the fold with one bulletin more.
-use Rattle.std.proofs.Common.{◌≡◌, ◌+◌, ◌<◌, ◌≤◌, ◌||◌, ◌++◌, ◌⊎◌, ◌↔◌, ℕ, Bool, true, false, cond, List, [], ◌∷◌, length, get_or, set, refl, sym, ◌∙◌, ap, subst, inl, inr, get_or-set_other, get_or-set_same}
-use Rattle.std.proofs.lemmas.Bool.{cases_eq, ne_eqb, eq-eqb}
+use Rattle.std.proofs.Common.{◌≡◌, ◌≢◌, ◌+◌, ◌<◌, ◌≤◌, ◌||◌, ◌++◌, ◌⊎◌, ◌↔◌, ℕ, Bool, true, false, cond, List, [], ◌∷◌, length, get_or, set, refl, sym, ◌∙◌, ap, subst, inl, inr, arith, get_or-set_other, get_or-set_same}
+use Rattle.std.proofs.lemmas.Bool.{cases_eq, lt-ltb, ne_eqb, eq-eqb}
 use Rattle.std.proofs.lemmas.List.{length-append}
 use Rattle.std.specs.List.{list_any}
 use Rattle.crgc_ids.specs.Actor.{Actor, same_actor}
@@ -22,7 +22,7 @@ use Rattle.history_model.proofs.RisingActors.{among-decides}
 use Rattle.membership.specs.Noted.{links_of}
 use Rattle.shadow_table.specs.Shadows.{is_named}
 use Rattle.shadow_rows.specs.Rows.{NamesRows}
-use Rattle.shadow_graph.specs.Graph.{Graph, lost_in}
+use Rattle.shadow_graph.specs.Graph.{Graph, is_logging, lost_in}
 use Rattle.shadow_rows.specs.Losing.{LosesNodes}
 use Rattle.shadow_rows.specs.Folded.{CountsFold, LogsFold}
 use Rattle.shadow_graph.specs.Stands.{IsGraphOf}
@@ -68,6 +68,17 @@ cut-more cl f o n cut inside counts k below =
       | inr apart ↦ get_or-set_other cut o k (get_or cut o 0 + 1) 0 apart ∙ counts k below ∙ ap (λ v. length (cond v (f k ++ n ∷ []) (f k))) (sym (ne_eqb k o apart))
     ]
 
+-- in a cluster of more than one node the log has the bulletin
+log-more : (cl : Cluster) (f : Fold) (o : ℕ) (b : Bulletin) (n : Notice) (g h : Graph) → o < cl.nodes → Tells o b n → TakesIn o b g h → IsGraphOf cl f g → 1 < cl.nodes → LogsFold cl (with_notice o n f) h.log
+log-more cl f o b n g h inside tells takes stands more =
+    let logging : is_logging g ≡ true = lt-ltb 1 g.finals.nodes (subst (λ k. 1 < k) (sym stands.nodes) more) in
+    logs-added cl f o b n g.log h.log inside tells (stands.log more) (takes.log.noted logging)
+
+-- a link leads from one node to another, so there are two
+two-nodes : (n s o : ℕ) → o < n → s < n → s ≢ o → 1 < n
+two-nodes n s o at from differ =
+    elim (cases_eq n 1) [ inl one ↦ absurd (differ (omega (arith, at, from, one))) | inr more ↦ omega (arith, at, more) ]
+
 -- a bulletin that is no Final
 pub graph-more : (cl : Cluster) (f : Fold) (o : ℕ) (b : Bulletin) (n : Notice) (g h : Graph) → o < cl.nodes → o < length g.cut → Tells o b n → IsOrdered b → links_into o (n ∷ []) ≡ [] → TakesIn o b g h → h.finals ≡ g.finals → IsGraphOf cl f g → IsGraphOf cl (with_notice o n f) h
 graph-more cl f o b n g h inside within tells order none takes same stands =
@@ -88,18 +99,18 @@ graph-more cl f o b n g h inside within tells order none takes same stands =
       cut = λ k below. ap (λ c. get_or c k 0) takes.cut ∙ cut-more cl f o n g.cut within stands.cut k below;
       known = known-more cl f o b n g.shadows.names h.shadows.names inside tells order takes.names stands.known;
       counts = subst (λ xs. CountsFold cl (has_node xs) (with_notice o n f) h.shadows h.edges) lost_is now;
-      log = logs-added cl f o b n g.log h.log inside tells stands.log takes.log;
+      log = log-more cl f o b n g h inside tells takes stands;
       links = subst (λ x. AreLinksOf cl (with_notice o n f) (links_of x)) (sym same) links;
     }
 
 -- a Final, whose link is noted, and after which the newly lost nodes are settled
-pub graph-final : (cl : Cluster) (f : Fold) (o s : ℕ) (b : Bulletin) (n : Notice) (g m h : Graph) → cl.nodes ≤ 16 → o < cl.nodes → o < length g.cut → Tells o b n → IsOrdered b → links_into o (n ∷ []) ≡ (s, o) ∷ [] → TakesIn o b g m → m.finals ≡ g.finals → h.finals.nodes ≡ g.finals.nodes → ((l : ℕ × ℕ) → IsAmong l (links_of h.finals) ↔ ((l ≡ (s, o)) ⊎ IsAmong l (links_of g.finals))) → h.cut ≡ m.cut → h.log ≡ m.log → h.shadows.names ≡ m.shadows.names → LosesNodes m.log (lost_in g) (lost_in h) m.shadows h.shadows m.edges h.edges → IsGraphOf cl f g → IsGraphOf cl (with_notice o n f) h
-graph-final cl f o s b n g m h few inside within tells order one takes same same_nodes noted same_cut same_log same_names loses stands =
+pub graph-final : (cl : Cluster) (f : Fold) (o s : ℕ) (b : Bulletin) (n : Notice) (g m h : Graph) → cl.nodes ≤ 16 → o < cl.nodes → s < cl.nodes → s ≢ o → o < length g.cut → Tells o b n → IsOrdered b → links_into o (n ∷ []) ≡ (s, o) ∷ [] → TakesIn o b g m → m.finals ≡ g.finals → h.finals.nodes ≡ g.finals.nodes → ((l : ℕ × ℕ) → IsAmong l (links_of h.finals) ↔ ((l ≡ (s, o)) ⊎ IsAmong l (links_of g.finals))) → h.cut ≡ m.cut → h.log ≡ m.log → h.shadows.names ≡ m.shadows.names → LosesNodes m.log (lost_in g) (lost_in h) m.shadows h.shadows m.edges h.edges → IsGraphOf cl f g → IsGraphOf cl (with_notice o n f) h
+graph-final cl f o s b n g m h few inside from differ within tells order one takes same same_nodes noted same_cut same_log same_names loses stands =
     let next = with_notice o n f in
     let lost = lost_in g in
     let was : CountsFold cl (has_node lost) f g.shadows g.edges = subst (λ xs. CountsFold cl (has_node xs) f g.shadows g.edges) (sym (lost-same cl f g stands)) stands.counts in
     let now = counts-added cl (has_node lost) f o b n g.shadows m.shadows g.edges m.edges inside tells was takes.rows in
-    let logs = logs-added cl f o b n g.log m.log inside tells stands.log takes.log in
+    let logs = log-more cl f o b n g m inside tells takes stands in
     let finals = λ (x d : ℕ). (knows-notice cl o n f inside).finals x d in
     let links : AreLinksOf cl next (links_of h.finals) = (
       λ l k. (finals l.0 l.1).1 (elim ((noted l).0 k) [
@@ -115,12 +126,12 @@ graph-final cl f o s b n g m h few inside within tells order one takes same same
     let lost_is : lost_in h ≡ lost_of cl next = ap (λ k. lost_nodes k (links_of h.finals)) nodes ∙ lost-links cl next (links_of h.finals) links in
     let part : IsPart lost (lost_in h) = subst (λ k. IsPart lost (lost_nodes k (links_of h.finals))) (sym same_nodes) (lost_nodes-grow g.finals.nodes (links_of g.finals) (links_of h.finals) (λ l k. (noted l).1 (inr k))) in
     let below : (k : ℕ) → has_node (lost_in h) k ≡ true → k < cl.nodes = λ k t. subst (λ c. k < c) nodes ((lost_nodes-lost h.finals.nodes (links_of h.finals) k (has_node-from_true (lost_in h) k t)).0) in
-    let settled = loses cl next few part below logs now in
+    let settled = loses cl next few part below (logs (two-nodes cl.nodes s o inside from differ)) now in
     record {
       nodes = nodes;
       cut = λ k under. ap (λ c. get_or c k 0) (same_cut ∙ takes.cut) ∙ cut-more cl f o n g.cut within stands.cut k under;
       known = subst (λ ns. (a : Actor) → IsAmong a ns ↔ IsAmong a (known_actors cl next)) (sym same_names) (known-more cl f o b n g.shadows.names m.shadows.names inside tells order takes.names stands.known);
       counts = subst (λ xs. CountsFold cl (has_node xs) next h.shadows h.edges) lost_is settled;
-      log = subst (LogsFold cl next) (sym same_log) logs;
+      log = λ more. subst (LogsFold cl next) (sym same_log) (logs more);
       links = links;
     }

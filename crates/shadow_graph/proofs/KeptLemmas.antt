@@ -24,7 +24,7 @@ use Rattle.shadow_table.specs.declared.table.Shadow.{Shadow}
 use Rattle.undo_log.specs.Noted.{noted_count}
 use Rattle.undo_log.specs.Told.{admitted_from, told_by}
 use Rattle.undo_log.specs.declared.corrections.Correction.{Correction}
-use Rattle.shadow_rows.specs.Rows.{AddsLog, AddsRows, AreSmall, IsLogCovered}
+use Rattle.shadow_rows.specs.Rows.{AddsRows, AreSmall, IsLogCovered, LogsIf}
 use Rattle.shadow_graph.specs.Kept.{AreWithin, IsKept, lost_count}
 use Rattle.shadow_rows.specs.Tabled.{AreTabled}
 
@@ -85,9 +85,19 @@ window-fits w counts told fits = record {
     nothing true n e = e
     nothing false n e = e
 
+-- what the log counts grows at most by the bulletin's rows
+module _ (node : ℕ) (b : Bulletin) (log log' : List (List Correction)) where
+  told-grows : (logs : Bool) → LogsIf logs node b log log' → (n : ℕ) (owner : Option Actor) (target : Actor) → told_by log' n owner target ≤ told_by log n owner target + cond (n == node) (noted_count owner target (own_rows b).sent (own_rows b).created) 0
+  told-grows true added n owner target = (let new = (added.noted refl).told n owner target in omega (arith, new))
+  told-grows false added n owner target = (let new = ap (λ l. told_by l n owner target) (added.same refl) in omega (arith, new))
+
+  admitted-grows : (logs : Bool) → LogsIf logs node b log log' → (n : ℕ) (owner : Option Actor) (target : Actor) → admitted_from log' n owner target ≤ admitted_from log n owner target + noted_count owner target (link_rows (λ k. k == n) b).sent (link_rows (λ k. k == n) b).created
+  admitted-grows true added n owner target = (let new = (added.noted refl).admitted n owner target in omega (arith, new))
+  admitted-grows false added n owner target = (let new = ap (λ l. admitted_from l n owner target) (added.same refl) in omega (arith, new))
+
 -- one bulletin more
-pub within-added : (folded lost node : ℕ) (counts : Bool) (own link : Ledger) (b : Bulletin) (s t : Shadows) (e f : Edges) (log log' : List (List Correction)) → RowsFit node counts own link b → AddsRows node counts own link s t e f → AddsLog node b log log' → AreWithin folded lost s e log → AreWithin (folded + 1) lost t f log'
-within-added folded lost node counts own link b s t e f log log' fits adds logs within = record {
+pub within-added : (folded lost node : ℕ) (counts logs : Bool) (own link : Ledger) (b : Bulletin) (s t : Shadows) (e f : Edges) (log log' : List (List Correction)) → RowsFit node counts own link b → AddsRows node counts own link s t e f → LogsIf logs node b log log' → AreWithin folded lost s e log → AreWithin (folded + 1) lost t f log'
+within-added folded lost node counts logs own link b s t e f log log' fits adds added within = record {
   received = λ a. (let new = ap (λ (x : Shadow). x.received) (adds.shadows a) in let old = within.received a in let more = fits.received a in omega (arith, new, old, more));
   told = λ a. (let new = ap (λ (x : Shadow). x.told) (adds.shadows a) in let old = within.told a in let more = fits.told a in omega (arith, new, old, more));
   admitted = λ a. (let new = ap (λ (x : Shadow). x.admitted) (adds.shadows a) in let old = within.admitted a in let more = fits.admitted a in omega (arith, new, old, more));
@@ -99,8 +109,8 @@ within-added folded lost node counts own link b s t e f log log' fits adds logs 
       let released = fits.released b a in
       (omega (arith, ints, new, low, released), omega (arith, ints, new, high, given))
       );
-  log_told = λ n owner target. (let new = logs.told n owner target in let old = within.log_told n owner target in let more = fits.log_told n owner target in omega (arith, new, old, more));
-  log_admitted = λ n owner target. (let new = logs.admitted n owner target in let old = within.log_admitted n owner target in let more = fits.log_admitted n owner target in omega (arith, new, old, more));
+  log_told = λ n owner target. (let new = told-grows node b log log' logs added n owner target in let old = within.log_told n owner target in let more = fits.log_told n owner target in omega (arith, new, old, more));
+  log_admitted = λ n owner target. (let new = admitted-grows node b log log' logs added n owner target in let old = within.log_admitted n owner target in let more = fits.log_admitted n owner target in omega (arith, new, old, more));
 }
 
 -- ---- the cut
@@ -118,11 +128,11 @@ raised [] node all inside fewer = absurd (omega arith)
 raised (k ∷ cut) zero all inside fewer = (omega arith, all.1)
 raised (k ∷ cut) (suc node) all inside fewer = (all.0, raised cut node all.1 (omega arith) fewer)
 
-pub kept-added : (s t : Shadows) (e f : Edges) (log log' : List (List Correction)) (finals : Noted) (lost cut cut' : List ℕ) (node : ℕ) (counts : Bool) (own link : Ledger) (b : Bulletin) → IsKept s e log finals lost cut → AreTabled t.names f → IsLogCovered t f log' → RowsFit node counts own link b → AddsRows node counts own link s t e f → AddsLog node b log log' → node < 16 → get_or cut node 0 < 1000000 → cut' ≡ set cut node (get_or cut node 0 + 1) → IsKept t f log' finals lost cut'
-kept-added s t e f log log' finals lost cut cut' node counts own link b kept tabled covered fits adds logs inside fewer is =
+pub kept-added : (s t : Shadows) (e f : Edges) (log log' : List (List Correction)) (finals : Noted) (lost cut cut' : List ℕ) (node : ℕ) (counts logs : Bool) (own link : Ledger) (b : Bulletin) → IsKept s e log finals lost cut → AreTabled t.names f → IsLogCovered t f log' → RowsFit node counts own link b → AddsRows node counts own link s t e f → LogsIf logs node b log log' → node < 16 → get_or cut node 0 < 1000000 → cut' ≡ set cut node (get_or cut node 0 + 1) → IsKept t f log' finals lost cut'
+kept-added s t e f log log' finals lost cut cut' node counts logs own link b kept tabled covered fits adds added inside fewer is =
     let long = kept.long in
     let one_more : sum_by (λ k. k) (set cut node (get_or cut node 0 + 1)) ≡ sum_by (λ k. k) cut + 1 = (let total = sum_by-set (λ (k : ℕ). k) cut node (get_or cut node 0 + 1) 0 (omega arith) in omega (arith, total)) in
-    let within = within-added (sum_by (λ k. k) cut) (lost_count lost) node counts own link b s t e f log log' fits adds logs kept.within in
+    let within = within-added (sum_by (λ k. k) cut) (lost_count lost) node counts logs own link b s t e f log log' fits adds added kept.within in
     subst (λ c. IsKept t f log' finals lost c) (sym is) (record {
       tabled = tabled;
       covered = covered;

@@ -1,5 +1,5 @@
 -- What contracts see of the shadow graph.
-use Rattle.std.specs.Prelude.{ℕ, List}
+use Rattle.std.specs.Prelude.{ℕ, Bool, List, nat_lt}
 use Rattle.crgc_ids.specs.LostNodes.{lost_nodes}
 use Rattle.edge_table.specs.Table.{Edges}
 use Rattle.membership.specs.Noted.{Noted, links_of}
@@ -18,3 +18,7 @@ pub record Graph : Type 0 where
 -- the nodes that are lost by the Finals that are noted
 abbrev pub lost_in : Graph → List ℕ
 lost_in g = lost_nodes g.finals.nodes (links_of g.finals)
+
+-- whether bulletins are logged: in a cluster of one node none is ever lost, and the log would never be read
+abbrev pub is_logging : Graph → Bool
+is_logging g = nat_lt 1 g.finals.nodes

@@ -13,17 +13,18 @@ use Rattle.history_model.specs.Streams.{Notice}
 use Rattle.history_model.specs.Tells.{Tells, bulletin_ledger}
 use Rattle.membership.specs.Noted.{links_of}
 use Rattle.shadow_table.specs.Shadows.{shadow_at}
-use Rattle.shadow_rows.specs.Rows.{AddsLog, AddsRows, NamesRows}
+use Rattle.shadow_rows.specs.Rows.{AddsRows, LogsIf, NamesRows}
 use Rattle.shadow_rows.specs.Touched.{LeavesActor, NamesMore, is_touched}
-use Rattle.shadow_graph.specs.Graph.{Graph, lost_in}
+use Rattle.shadow_graph.specs.Graph.{Graph, is_logging, lost_in}
 use Rattle.shadow_rows.specs.Losing.{LosesNodes}
 use Rattle.shadow_graph.specs.Stands.{IsGraphOf}
 
--- the rows are counted under the old lost nodes and noted in the log, their actors are named, and the cut counts the bulletin
+-- the rows are counted under the old lost nodes and logged where bulletins are, their actors are named, and the cut counts the
+-- bulletin
 pub record TakesIn (o : ℕ) (b : Bulletin) (old new : Graph) : Type 0 where
   pub rows : AddsRows o (not (has_node (lost_in old) o)) (own_rows b) (link_rows (has_node (lost_in old)) b)
       old.shadows new.shadows old.edges new.edges
-  pub log : AddsLog o b old.log new.log
+  pub log : LogsIf (is_logging old) o b old.log new.log
   pub names : NamesRows old.shadows.names new.shadows.names (ledger_names (bulletin_ledger b))
   pub more : NamesMore old.shadows.names new.shadows.names
   pub cut : new.cut ≡ slice_set old.cut o (slice_index old.cut o + 1)

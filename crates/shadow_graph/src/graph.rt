@@ -7,7 +7,7 @@ ghost use Rattle.history_model.specs.Tells.{origin_of};
 ghost use Rattle.history_model.specs.declared.records.Bulletin.TheVariants as bulletins;
 ghost use Rattle.history_model.specs.Folds.{Fold};
 ghost use Rattle.shadow_table.specs.Shadows.{is_named, no_shadows, place_in};
-ghost use Rattle.shadow_graph.specs.Graph.{lost_in};
+ghost use Rattle.shadow_graph.specs.Graph.{is_logging, lost_in};
 ghost use Rattle.shadow_graph.specs.Places.{ArePlaced};
 ghost use Rattle.shadow_graph.specs.Seen.{Drops, is_dropped, is_known, seen_edge, seen_shadow};
 ghost use Rattle.shadow_graph.specs.Stands.{IsGraphOf};
@@ -31,7 +31,8 @@ use std::marker::Model;
 use undo_log::UndoLog;
 
 /// What all folded bulletins tell of actors and of the references between them. It keeps its allocator. Contracts see the
-/// shadows, the edges, the log of what each node told and what others admitted from it, the Finals and the cut.
+/// shadows, the edges, the log of what each node told and what others admitted from it, the Finals and the cut. Where the
+/// cluster has one node alone, nothing is logged.
 #[derive(Drop)]
 pub struct ShadowGraph {
     alloc: Global,
@@ -220,6 +221,13 @@ impl ShadowGraph {
         shadow
     }
 
+    /// Whether bulletins are logged: in a cluster of one node none is ever lost.
+    fn is_logging(&self) -> bool
+        ensures { result ≡ is_logging self.now }
+    {
+        self.finals.nodes() > 1
+    }
+
     /// The Delta is taken in. After `NoMemory` all is as before. Amortized time in proportion to n log n for n
     /// rows, and logarithmic in the number of edges for each.
     fn take_delta(&mut self, delta: &Delta) -> Result<(), NoMemory>
@@ -233,6 +241,7 @@ impl ShadowGraph {
         ensures long { length self.old.cut ≡ 16 }
     {
         let counts = !self.lost.contains(delta.node);
+        let logs = self.is_logging();
         match add_delta(
             self.alloc,
             &mut self.shadows,
@@ -240,6 +249,7 @@ impl ShadowGraph {
             &mut self.log,
             delta,
             counts,
+            logs,
         ) {
             Ok(()) => {
                 self.cut.raise(delta.node);
@@ -263,6 +273,7 @@ impl ShadowGraph {
         ensures long { length self.old.cut ≡ 16 }
     {
         let counts = self.lost.contains(window.from);
+        let logs = self.is_logging();
         match add_window(
             self.alloc,
             &mut self.shadows,
@@ -270,6 +281,7 @@ impl ShadowGraph {
             &mut self.log,
             window,
             counts,
+            logs,
         ) {
             Ok(()) => {
                 self.cut.raise(window.at);

@@ -1,5 +1,5 @@
 //! Laws of the definitions. Each function does nothing, and its contract is the law.
-ghost use Rattle.std.specs.Prelude.{◌≡◌, ◌<◌, ◌≤◌, ◌↔◌, ◌⊎◌, ◌∷◌, [], ℕ, List, count_by, length};
+ghost use Rattle.std.specs.Prelude.{◌≡◌, ◌≢◌, ◌<◌, ◌≤◌, ◌↔◌, ◌⊎◌, ◌∷◌, [], ℕ, List, count_by, length};
 ghost use Rattle.history_model.specs.declared.records.Bulletin.{Bulletin};
 ghost use Rattle.history_model.specs.Cluster.{Cluster};
 ghost use Rattle.history_model.specs.Folds.{Fold, links_into, lost_of};
@@ -18,15 +18,15 @@ ghost use Rattle.shadow_graph.specs.Taken.{TakesIn};
 ghost use Rattle.membership.specs.Noted.{links_of};
 ghost use Rattle.shadow_graph.specs.Stands.{IsGraphOf};
 
-/// A graph that stands for a fold and takes in a bulletin that is no Final stands for the fold with it. With a Final it does
-/// once the link is noted and the newly lost nodes are settled.
+/// A graph that stands for a fold and takes in a bulletin that is no Final stands for the fold with it. With a Final of
+/// a link from another node it does once the link is noted and the newly lost nodes are settled.
 pub fn a_graph_takes_in_a_bulletin()
     ensures more { (cl : Cluster) (f : Fold) (o : ℕ) (b : Bulletin) (n : Notice) (g h : Graph) → o < cl.nodes → o < length g.cut
         → Tells o b n → IsOrdered b → links_into o (n ∷ []) ≡ [] → TakesIn o b g h → h.finals ≡ g.finals → IsGraphOf cl f g
         → IsGraphOf cl (with_notice o n f) h }
     ensures closing { (cl : Cluster) (f : Fold) (o s : ℕ) (b : Bulletin) (n : Notice) (g m h : Graph) → cl.nodes ≤ 16 → o < cl.nodes
-        → o < length g.cut → Tells o b n → IsOrdered b → links_into o (n ∷ []) ≡ (s, o) ∷ [] → TakesIn o b g m → m.finals ≡ g.finals
-        → h.finals.nodes ≡ g.finals.nodes
+        → s < cl.nodes → s ≢ o → o < length g.cut → Tells o b n → IsOrdered b → links_into o (n ∷ []) ≡ (s, o) ∷ []
+        → TakesIn o b g m → m.finals ≡ g.finals → h.finals.nodes ≡ g.finals.nodes
         → ((l : ℕ × ℕ) → IsAmong l (links_of h.finals) ↔ ((l ≡ (s, o)) ⊎ IsAmong l (links_of g.finals)))
         → h.cut ≡ m.cut → h.log ≡ m.log → h.shadows.names ≡ m.shadows.names
         → LosesNodes m.log (lost_in g) (lost_in h) m.shadows h.shadows m.edges h.edges → IsGraphOf cl f g

@@ -11,4 +11,4 @@ close-requires-clause-destination c = subst (λ (x : Noted). c.args.window.now.a
 
 pub returns-in-Ok-clause-ok : goal.returns-in-Ok-clause-ok
 returns-in-Ok-clause-ok c =
-    folds-final c.args.window.now c.args.self.now c.take_window.new.self c.close.new.self c.take_window.ensures.few c.take_window.ensures.long c.take_window.ensures.ordered c.requires.at c.in-Ok.ensures.ok_final c.take_window.ensures.finals c.close.ensures
+    folds-final c.args.window.now c.args.self.now c.take_window.new.self c.close.new.self c.take_window.ensures.few c.take_window.ensures.long c.take_window.ensures.ordered c.requires.at c.requires.from c.requires.differ c.in-Ok.ensures.ok_final c.take_window.ensures.finals c.close.ensures
