@@ -20,6 +20,7 @@ use crate::stopped::{make_room, set_all};
 use crate::stops::{find_stopped, stops_of};
 use crgc_ids::{ActorId, Cut, NoMemory, NodeId};
 use gossip_core::GossipCore;
+use graph_wire::Spare;
 use history_model::{Bulletin, StopList, Verdict};
 use pseudoroot_trace::{Marks, TracedGraph};
 use shadow_graph::ShadowGraph;
@@ -49,6 +50,7 @@ pub struct Collector {
     stopped: Vec<bool>,
     gone: Vec<ActorId>,
     marks: Marks,
+    spare: Spare,
 }
 
 impl Model for Collector {
@@ -86,6 +88,7 @@ impl Collector {
             stopped: Vec::new(alloc),
             gone: Vec::new(alloc),
             marks: Marks::new(alloc),
+            spare: Spare::new(alloc),
         })
     }
 
@@ -154,7 +157,7 @@ impl Collector {
         ensures unchanged { IfErr result (λ e. LeavesAsWas e self.old self.new) }
         ensures takes { Takes origin number bytes.now self.old self.new }
     {
-        let b = match read_whole(self.alloc, self.nodes, origin, bytes) {
+        let b = match read_whole(&mut self.spare, self.nodes, origin, bytes) {
             Ok(b) => b,
             Err(fault) => return Err(fault),
         };
@@ -194,6 +197,7 @@ impl Collector {
         let is_next = number == self.cut().at(origin);
         if is_next && !self.has_taken(origin, number) {
             self.fold_unkept(origin, &b)?;
+            self.spare.keep(b);
             return Ok(1);
         }
         self.keep(origin, number, b)?;

@@ -8,9 +8,8 @@ ghost use Rattle.wire_grammar.specs.Spelling.{spelled};
 ghost use Rattle.collector.specs.Refusals.{IsFit, IsRefusal, counts_within, fault_of, is_foreign, is_within, pairs_within, read_as, states_within};
 
 use crgc_ids::{ActorCount, ActorId, NodeId, PairCount};
-use graph_wire::{ReadFault, WireFault};
+use graph_wire::{ReadFault, Spare, WireFault};
 use history_model::{Bulletin, Delta, StateRow, Window};
-use std::alloc::Global;
 
 /// Why a collector refuses bytes.
 #[derive(Clone, Copy, PartialEq, Eq, Debug)]
@@ -25,10 +24,10 @@ pub enum TakeFault {
     NoMemory,
 }
 
-/// The bulletin that the bytes are, of the origin in a cluster of so many nodes; else the first reason to refuse them. It takes
-/// memory and time in proportion to the bytes.
+/// The bulletin that the bytes are, of the origin in a cluster of so many nodes, in spare room; else the first reason to refuse
+/// them. It takes memory and time in proportion to the bytes.
 pub fn read_whole(
-    alloc: Global,
+    spare: &mut Spare,
     nodes: u8,
     origin: NodeId,
     bytes: &[u8],
@@ -38,7 +37,7 @@ pub fn read_whole(
     ensures fits { IfOk result (λ b. IsFit nodes origin b) }
     ensures only { IfOk result (λ b. (c : Bulletin) → IsSpellable c → bytes.now ≡ spelled c → c ≡ b) }
 {
-    let (b, len) = match graph_wire::read(alloc, bytes) {
+    let (b, len) = match graph_wire::read_into(spare, bytes) {
         Ok(read) => read,
         Err(fault) => return Err(take_fault(fault)),
     };

@@ -8,6 +8,7 @@ ghost use Rattle.graph_wire.specs.Gives.{Gives, GivesPrefix};
 
 use crate::fault::{ReadFault, fault};
 use crate::reading::{counts_at, node_at, pairs_at, states_at, table_at, u8_at, u32_at};
+use crate::spare::Spare;
 use crate::table::unnamed;
 use crgc_bytes::Cursor;
 use crgc_ids::NodeId;
@@ -22,18 +23,20 @@ const NARROW: u32 = 0x4352_4731;
 const WIDE: u32 = 0x4352_4732;
 
 #[tactic(auto, unfolding(wire_grammar::specs::Reading::delta_at))]
-fn delta_at(alloc: Global, cursor: &mut Cursor<'_>, wide: bool) -> Result<Delta, ReadFault>
+fn delta_at(spare: &mut Spare, cursor: &mut Cursor<'_>, wide: bool) -> Result<Delta, ReadFault>
     ensures { Gives cursor.new result (delta_at wide cursor.old) }
 {
     let node = node_at(cursor)?;
-    let mut table = table_at(alloc, cursor, wide)?;
+    let mut table = table_at(&mut spare.table, cursor, wide)?;
     let first = cursor.offset() - 5 * table.len();
     let actors = table.as_mut_slice();
-    let states = states_at(alloc, cursor, wide, actors)?;
-    let sent = counts_at(alloc, cursor, wide, actors)?;
-    let created = pairs_at(alloc, cursor, wide, actors)?;
-    let released = pairs_at(alloc, cursor, wide, actors)?;
-    match unnamed(actors, first) {
+    let states = states_at(&mut spare.states, cursor, wide, actors)?;
+    let sent = counts_at(&mut spare.counts, cursor, wide, actors)?;
+    let created = pairs_at(&mut spare.created, cursor, wide, actors)?;
+    let released = pairs_at(&mut spare.released, cursor, wide, actors)?;
+    let unused = unnamed(actors, first);
+    spare.table = table;
+    match unused {
         Some(offset) => Err(fault(WireKind::Unused, offset)),
         None => Ok(Delta {
             node,
@@ -59,16 +62,18 @@ fn link_at(cursor: &mut Cursor<'_>) -> Result<(NodeId, NodeId), ReadFault>
 }
 
 #[tactic(auto, unfolding(wire_grammar::specs::Reading::window_at))]
-fn window_at(alloc: Global, cursor: &mut Cursor<'_>, wide: bool) -> Result<Window, ReadFault>
+fn window_at(spare: &mut Spare, cursor: &mut Cursor<'_>, wide: bool) -> Result<Window, ReadFault>
     ensures { Gives cursor.new result (window_at wide cursor.old) }
 {
     let (at, from) = link_at(cursor)?;
-    let mut table = table_at(alloc, cursor, wide)?;
+    let mut table = table_at(&mut spare.table, cursor, wide)?;
     let first = cursor.offset() - 5 * table.len();
     let actors = table.as_mut_slice();
-    let messages = counts_at(alloc, cursor, wide, actors)?;
-    let carried = pairs_at(alloc, cursor, wide, actors)?;
-    match unnamed(actors, first) {
+    let messages = counts_at(&mut spare.counts, cursor, wide, actors)?;
+    let carried = pairs_at(&mut spare.created, cursor, wide, actors)?;
+    let unused = unnamed(actors, first);
+    spare.table = table;
+    match unused {
         Some(offset) => Err(fault(WireKind::Unused, offset)),
         None => Ok(Window {
             at,
@@ -103,7 +108,7 @@ fn kind_at(cursor: &mut Cursor<'_>) -> Result<u8, ReadFault>
 }
 
 fn body_at(
-    alloc: Global,
+    spare: &mut Spare,
     cursor: &mut Cursor<'_>,
     wide: bool,
     kind: u8,
@@ -111,27 +116,27 @@ fn body_at(
     ensures { Gives cursor.new result (body_at wide kind cursor.old) }
 {
     match kind {
-        1 => Ok(Bulletin::Delta(delta_at(alloc, cursor, wide)?)),
-        2 => Ok(Bulletin::Window(window_at(alloc, cursor, wide)?)),
-        _ => Ok(Bulletin::Final(window_at(alloc, cursor, wide)?)),
+        1 => Ok(Bulletin::Delta(delta_at(spare, cursor, wide)?)),
+        2 => Ok(Bulletin::Window(window_at(spare, cursor, wide)?)),
+        _ => Ok(Bulletin::Final(window_at(spare, cursor, wide)?)),
     }
 }
 
 #[tactic(auto, unfolding(wire_grammar::specs::Reading::bulletin_at))]
-fn bulletin_at(alloc: Global, cursor: &mut Cursor<'_>) -> Result<Bulletin, ReadFault>
+fn bulletin_at(spare: &mut Spare, cursor: &mut Cursor<'_>) -> Result<Bulletin, ReadFault>
     ensures { Gives cursor.new result (bulletin_at cursor.old) }
 {
     let number = magic_at(cursor)?;
     let kind = kind_at(cursor)?;
-    body_at(alloc, cursor, number == WIDE, kind)
+    body_at(spare, cursor, number == WIDE, kind)
 }
 
 #[tactic(auto, unfolding(wire_grammar::specs::Reading::reading))]
-fn prefix(alloc: Global, bytes: &[u8]) -> Result<(Bulletin, usize), ReadFault>
+fn prefix(spare: &mut Spare, bytes: &[u8]) -> Result<(Bulletin, usize), ReadFault>
     ensures { GivesPrefix result (reading bytes.now) }
 {
     let mut cursor = Cursor::new(bytes);
-    let b = bulletin_at(alloc, &mut cursor)?;
+    let b = bulletin_at(spare, &mut cursor)?;
     Ok((b, cursor.offset()))
 }
 
@@ -146,5 +151,15 @@ pub fn read(alloc: Global, bytes: &[u8]) -> Result<(Bulletin, usize), ReadFault>
     // Which fault it is.
     ensures exact { GivesPrefix result (reading bytes.now) }
 {
-    prefix(alloc, bytes)
+    read_into(&mut Spare::new(alloc), bytes)
+}
+
+/// The same, in the room of bulletins that were given up before.
+pub fn read_into(spare: &mut Spare, bytes: &[u8]) -> Result<(Bulletin, usize), ReadFault>
+    ensures found { IfOk result (λ x. IsSpellable x.0 × (bytes.now ≡ spelled x.0 ++ drop x.1 bytes.now) × (x.1 ≡ length (spelled x.0))) }
+    ensures only { (b : Bulletin) (rest : List ℕ) → IsSpellable b → bytes.now ≡ spelled b ++ rest
+        → GivesPrefix result (Ok (b, length (spelled b))) }
+    ensures exact { GivesPrefix result (reading bytes.now) }
+{
+    prefix(spare, bytes)
 }

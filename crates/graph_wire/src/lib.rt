@@ -5,10 +5,12 @@ mod bulletins;
 mod fault;
 mod names;
 mod reading;
+mod spare;
 mod table;
 mod writing;
 
-pub use bulletins::read;
+pub use bulletins::{read, read_into};
 pub use fault::ReadFault;
+pub use spare::Spare;
 pub use wire_grammar::{WireFault, WireKind};
 pub use writing::write;

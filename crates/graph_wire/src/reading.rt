@@ -15,27 +15,30 @@ use crgc_ids::{
     ActorCount, ActorCounts, ActorId, NoMemory, NodeId, PairCount, PairCounts, RisingList, Row,
 };
 use history_model::{StateRow, StateRows};
-use std::alloc::Global;
+use std::mem;
 use wire_grammar::WireKind;
 
-// For how many rows there is room at first, at most: a count that is read may be too high.
+/// For how many rows there is room at first, at most: a count that is read may be too high.
 const MOST_AT_FIRST: u32 = 1024;
 
-/// An empty vector with room for so many rows, or for some of them.
-fn with_room<T>(alloc: Global, count: u32) -> Result<Vec<T>, NoMemory>
+/// The spare vector, emptied, with room for so many rows, or for some of them.
+fn with_room<T: Copy>(spare: &mut Vec<T>, count: u32) -> Result<Vec<T>, NoMemory>
     ensures { IfOk result (λ v. v.items ≡ []) }
 {
-    match Vec::with_capacity(alloc, count.min(MOST_AT_FIRST) as usize) {
-        Ok(rows) => Ok(rows),
+    let alloc = *spare.allocator();
+    let mut rows = mem::replace(spare, Vec::new(alloc));
+    rows.clear();
+    match rows.reserve(count.min(MOST_AT_FIRST) as usize) {
+        Ok(()) => Ok(rows),
         Err(_) => Err(NoMemory),
     }
 }
 
-/// A list of no rows with room for so many, or for some of them.
-fn no_rows<T: Row>(alloc: Global, count: u32) -> Result<RisingList<T>, NoMemory>
+/// A list of no rows with room for so many, or for some of them, in the spare vector.
+fn no_rows<T: Row>(spare: &mut Vec<T>, count: u32) -> Result<RisingList<T>, NoMemory>
     ensures { IfOk result (λ l. l ≡ []) }
 {
-    match with_room(alloc, count) {
+    match with_room(spare, count) {
         Ok(rows) => Ok(RisingList::from_vec(rows)),
         Err(_) => Err(NoMemory),
     }
@@ -139,14 +142,14 @@ fn table_len(cursor: &mut Cursor<'_>, wide: bool) -> Result<u32, ReadFault>
 }
 
 fn table_rows(
-    alloc: Global,
+    spare: &mut Vec<TableActor>,
     cursor: &mut Cursor<'_>,
     count: u32,
 ) -> Result<Vec<TableActor>, ReadFault>
     ensures gives { GivesTable cursor.new result (rows_at (λ a. a) table_row count None cursor.old) }
     ensures fresh { IfOk result (λ t. IsFresh t.items) }
 {
-    let mut table = with_room(alloc, count)?;
+    let mut table = with_room(spare, count)?;
     let mut last = None;
     let mut own = cursor.copy();
     for i in 0..count {
@@ -159,10 +162,10 @@ fn table_rows(
     Ok(table)
 }
 
-/// The rising table of a bulletin's actors, which no row names yet.
+/// The rising table of a bulletin's actors, which no row names yet, in the spare vector.
 #[tactic(auto, unfolding(wire_grammar::specs::Reading::table_at))]
 pub fn table_at(
-    alloc: Global,
+    spare: &mut Vec<TableActor>,
     cursor: &mut Cursor<'_>,
     wide: bool,
 ) -> Result<Vec<TableActor>, ReadFault>
@@ -170,7 +173,7 @@ pub fn table_at(
     ensures fresh { IfOk result (λ t. IsFresh t.items) }
 {
     let count = table_len(cursor, wide)?;
-    table_rows(alloc, cursor, count)
+    table_rows(spare, cursor, count)
 }
 
 /// The table's actor at the index that is read; it is marked.
@@ -330,7 +333,7 @@ fn pair_row(
 }
 
 fn state_rows(
-    alloc: Global,
+    spare: &mut Vec<StateRow>,
     cursor: &mut Cursor<'_>,
     wide: bool,
     table: &mut [TableActor],
@@ -339,7 +342,7 @@ fn state_rows(
     ensures gives { Gives cursor.new result (rows_at (λ r. r.actor) (state_row wide (actors_of table.old)) count None cursor.old) }
     ensures marks { IfOk result (λ rows. Marks (state_names rows) table.old table.new) }
 {
-    let mut rows = no_rows(alloc, count)?;
+    let mut rows = no_rows(spare, count)?;
     let mut last = None;
     let mut own = cursor.copy();
     for i in 0..count {
@@ -355,7 +358,7 @@ fn state_rows(
 /// The states of a Delta.
 #[tactic(auto, unfolding(wire_grammar::specs::Reading::states_at))]
 pub fn states_at(
-    alloc: Global,
+    spare: &mut Vec<StateRow>,
     cursor: &mut Cursor<'_>,
     wide: bool,
     table: &mut [TableActor],
@@ -364,11 +367,11 @@ pub fn states_at(
     ensures marks { IfOk result (λ rows. Marks (state_names rows) table.old table.new) }
 {
     let count = len_at(cursor, wide)?;
-    state_rows(alloc, cursor, wide, table, count)
+    state_rows(spare, cursor, wide, table, count)
 }
 
 fn count_rows(
-    alloc: Global,
+    spare: &mut Vec<ActorCount>,
     cursor: &mut Cursor<'_>,
     wide: bool,
     table: &mut [TableActor],
@@ -377,7 +380,7 @@ fn count_rows(
     ensures gives { Gives cursor.new result (rows_at (λ r. r.actor) (count_row wide (actors_of table.old)) count None cursor.old) }
     ensures marks { IfOk result (λ rows. Marks (count_names rows) table.old table.new) }
 {
-    let mut rows = no_rows(alloc, count)?;
+    let mut rows = no_rows(spare, count)?;
     let mut last = None;
     let mut own = cursor.copy();
     for i in 0..count {
@@ -393,7 +396,7 @@ fn count_rows(
 /// A section of actor counts.
 #[tactic(auto, unfolding(wire_grammar::specs::Reading::counts_at))]
 pub fn counts_at(
-    alloc: Global,
+    spare: &mut Vec<ActorCount>,
     cursor: &mut Cursor<'_>,
     wide: bool,
     table: &mut [TableActor],
@@ -402,11 +405,11 @@ pub fn counts_at(
     ensures marks { IfOk result (λ rows. Marks (count_names rows) table.old table.new) }
 {
     let count = len_at(cursor, wide)?;
-    count_rows(alloc, cursor, wide, table, count)
+    count_rows(spare, cursor, wide, table, count)
 }
 
 fn pair_rows(
-    alloc: Global,
+    spare: &mut Vec<PairCount>,
     cursor: &mut Cursor<'_>,
     wide: bool,
     table: &mut [TableActor],
@@ -415,7 +418,7 @@ fn pair_rows(
     ensures gives { Gives cursor.new result (rows_at (λ r. (r.owner, r.target)) (pair_row wide (actors_of table.old)) count None cursor.old) }
     ensures marks { IfOk result (λ rows. Marks (pair_names rows) table.old table.new) }
 {
-    let mut rows = no_rows(alloc, count)?;
+    let mut rows = no_rows(spare, count)?;
     let mut last = None;
     let mut own = cursor.copy();
     for i in 0..count {
@@ -431,7 +434,7 @@ fn pair_rows(
 /// A section of pair counts.
 #[tactic(auto, unfolding(wire_grammar::specs::Reading::pairs_at))]
 pub fn pairs_at(
-    alloc: Global,
+    spare: &mut Vec<PairCount>,
     cursor: &mut Cursor<'_>,
     wide: bool,
     table: &mut [TableActor],
@@ -440,5 +443,5 @@ pub fn pairs_at(
     ensures marks { IfOk result (λ rows. Marks (pair_names rows) table.old table.new) }
 {
     let count = u32_at(cursor)?;
-    pair_rows(alloc, cursor, wide, table, count)
+    pair_rows(spare, cursor, wide, table, count)
 }
