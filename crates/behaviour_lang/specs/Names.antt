@@ -1,5 +1,5 @@
 -- How names are spelled. A text is the list of its bytes.
-use Rattle.std.specs.Prelude.{ℕ, ◌+◌, ◌-◌, ◌==◌, ◌&&◌, ◌||◌, Bool, false, not, nat_le, nat_lt, codes, if◌then◌else◌, List, [], ◌∷◌, length, Option, Some, None}
+use Rattle.std.specs.Prelude.{ℕ, ◌+◌, ◌-◌, ◌==◌, ◌&&◌, ◌||◌, Bool, false, not, nat_le, nat_lt, codes, if◌then◌else◌, List, [], ◌∷◌, ◌++◌, length, replicate, Option, Some, None}
 use Rattle.std.specs.List.{list_all}
 use Rattle.std.specs.Str.{bytes_eq}
 
@@ -32,6 +32,10 @@ is_numbered (b ∷ digits) = (b == 109) && nat_lt 0 (length digits) && list_all 
 unfoldable pub is_local_name : List ℕ → Bool
 is_local_name name =
     nat_le (length name) 16 && has_first_letter name && list_all is_name_byte name && not (bytes_eq name (codes "self")) && not (is_numbered name)
+
+-- a text that is filled up with zeros to 16 bytes, as a local name stands in place
+abbrev pub padded : List ℕ → List ℕ
+padded text = text ++ replicate (16 - length text) 0
 
 -- the number of two digits from 10 to 15, with nothing after them
 abbrev pub number_from_10 : ℕ → ℕ → List ℕ → Option ℕ

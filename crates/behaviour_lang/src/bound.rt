@@ -8,8 +8,9 @@ ghost use Rattle.crgc_ids.specs.Actor.{Actor};
 ghost use Rattle.behaviour_lang.specs.declared.instr.Name.TheVariants.{Local, Message};
 
 use crate::instr::{Name, NameList};
+use crate::local_name::LocalName;
 use crate::locals::Locals;
-use crgc_ids::{ActorId, NoMemory, Octets, RefList};
+use crgc_ids::{ActorId, NoMemory, RefList};
 use std::alloc::Global;
 
 /// The references of the message, which of them are still bound, and the local names.
@@ -90,7 +91,7 @@ impl BoundNames {
     }
 
     /// The local name, which was not bound, is bound to the actor; after `NoMemory` all is as before.
-    pub(crate) fn bind(&mut self, name: Octets, actor: ActorId) -> Result<(), NoMemory>
+    pub(crate) fn bind(&mut self, name: LocalName, actor: ActorId) -> Result<(), NoMemory>
         requires { bound (Local name) (names_of self.old) ≡ None }
         ensures ok { OnOk result (names_of self.new ≡ bind name actor (names_of self.old)) }
         ensures err { OnErr result (self.new ≡ self.old) }
@@ -100,7 +101,7 @@ impl BoundNames {
 
     /// The local name, which was not bound, is bound to the actor of the message name, which is not bound any more; after
     /// `NoMemory` all is as before.
-    pub(crate) fn keep(&mut self, name: Octets, k: usize, actor: ActorId) -> Result<(), NoMemory>
+    pub(crate) fn keep(&mut self, name: LocalName, k: usize, actor: ActorId) -> Result<(), NoMemory>
         requires { bound (Local name) (names_of self.old) ≡ None }
         ensures ok { OnOk result (names_of self.new ≡ bind name actor (without (Message k) (names_of self.old))) }
         ensures kept { OnOk result (IsKept name k actor self.old self.new) }

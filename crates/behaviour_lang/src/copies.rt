@@ -1,9 +1,8 @@
 //! Copies of behaviours.
 ghost use Rattle.std.specs.Prelude.{◌≡◌, IfOk};
-ghost use Rattle.behaviour_lang.specs.declared.instr.Instr.TheVariants.{Send};
 
 use crate::code::{Behaviour, BehaviourList, Code};
-use crate::instr::{Instr, InstrList, Name, NameList};
+use crate::instr::{Instr, InstrList};
 use crgc_ids::NoMemory;
 use std::alloc::Global;
 
@@ -38,56 +37,29 @@ fn copied_instrs(alloc: Global, instrs: &InstrList) -> Result<InstrList, NoMemor
 {
     let mut copied = InstrList::new(alloc);
     for row in instrs.as_slice() {
-        copied.push(copied_instr(alloc, row)?)?;
+        copied.push(copied_instr(row)?)?;
     }
     Ok(copied)
 }
 
-fn copied_instr(alloc: Global, instr: &Instr) -> Result<Instr, NoMemory>
+fn copied_instr(instr: &Instr) -> Result<Instr, NoMemory>
     ensures { IfOk result (λ i. i ≡ instr.now) }
 {
     match instr {
         Instr::Spawn { name, behaviour } => Ok(Instr::Spawn {
-            name: name.copy()?,
+            name: *name,
             behaviour: *behaviour,
         }),
-        Instr::Send { to, refs } => copied_send(alloc, to, refs),
-        Instr::Drop { name } => Ok(Instr::Drop {
-            name: copied_name(name)?,
+        Instr::Send { to, refs } => Ok(Instr::Send {
+            to: *to,
+            refs: refs.copy()?,
         }),
+        Instr::Drop { name } => Ok(Instr::Drop { name: *name }),
         Instr::Keep { name, message } => Ok(Instr::Keep {
-            name: name.copy()?,
+            name: *name,
             message: *message,
         }),
         Instr::Work { steps } => Ok(Instr::Work { steps: *steps }),
         Instr::Retire => Ok(Instr::Retire),
-    }
-}
-
-fn copied_send(alloc: Global, to: &Name, refs: &NameList) -> Result<Instr, NoMemory>
-    ensures { IfOk result (λ i. i ≡ Send to.now refs.now) }
-{
-    let to = copied_name(to)?;
-    let refs = copied_names(alloc, refs)?;
-    Ok(Instr::Send { to, refs })
-}
-
-fn copied_names(alloc: Global, names: &NameList) -> Result<NameList, NoMemory>
-    ensures { IfOk result (λ l. l ≡ names.now) }
-{
-    let mut copied = NameList::new(alloc);
-    for row in names.as_slice() {
-        copied.push(copied_name(row)?)?;
-    }
-    Ok(copied)
-}
-
-fn copied_name(name: &Name) -> Result<Name, NoMemory>
-    ensures { IfOk result (λ n. n ≡ name.now) }
-{
-    match name {
-        Name::Own => Ok(Name::Own),
-        Name::Message(k) => Ok(Name::Message(*k)),
-        Name::Local(name) => Ok(Name::Local(name.copy()?)),
     }
 }

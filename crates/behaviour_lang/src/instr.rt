@@ -1,12 +1,13 @@
 //! Instructions, and the names that they use.
-use crgc_ids::{ItemList, Octets};
+use crate::local_name::LocalName;
+use crgc_ids::ItemList;
 
 /// A name of a reference: the actor itself, `m0` to `m15` of the message that is taken, or a local one.
-#[derive(Debug, Drop)]
+#[derive(Clone, Copy, Debug)]
 pub enum Name {
     Own,
     Message(u8),
-    Local(Octets),
+    Local(LocalName),
 }
 
 /// Names in the order in which they were put in.
@@ -15,10 +16,10 @@ pub type NameList = ItemList<Name>;
 /// One instruction. A behaviour is named by its number.
 #[derive(Debug, Drop)]
 pub enum Instr {
-    Spawn { name: Octets, behaviour: u32 },
+    Spawn { name: LocalName, behaviour: u32 },
     Send { to: Name, refs: NameList },
     Drop { name: Name },
-    Keep { name: Octets, message: u8 },
+    Keep { name: LocalName, message: u8 },
     Work { steps: u32 },
     Retire,
 }

@@ -8,7 +8,8 @@ ghost use Rattle.crgc_ids.specs.Rising.{IsRising};
 ghost use Rattle.behaviour_lang.specs.Rows.{IsGapFor, IsRowBelow, IsRowOf, row_cmp};
 ghost use Rattle.behaviour_lang.specs.declared.instr.Name.TheVariants.{Local};
 
-use crgc_ids::{ActorId, NoMemory, Octets};
+use crate::local_name::LocalName;
+use crgc_ids::{ActorId, NoMemory};
 use std::alloc::Global;
 use std::cmp::Ordering;
 use std::marker::Model;
@@ -18,7 +19,7 @@ use std::slice::Iter;
 /// and they rise as texts. It keeps its allocator. Contracts see the list of the pairs.
 #[derive(Debug, Drop)]
 pub struct Locals {
-    rows: Vec<(Octets, ActorId)>,
+    rows: Vec<(LocalName, ActorId)>,
 }
 
 impl Model for Locals {
@@ -46,7 +47,7 @@ impl Locals {
 
     /// The name, which was not there, is bound to the actor; after `NoMemory` all is as before. Logarithmic time in the
     /// number of names, and each name above is moved by one place.
-    pub fn bind(&mut self, name: Octets, actor: ActorId) -> Result<(), NoMemory>
+    pub fn bind(&mut self, name: LocalName, actor: ActorId) -> Result<(), NoMemory>
         requires { bound (Local name) (local_names self.old) ≡ None }
         ensures ok { OnOk result (local_names self.new ≡ bind name actor (local_names self.old)) }
         ensures err { OnErr result (self.new ≡ self.old) }
@@ -62,14 +63,10 @@ impl Locals {
     pub fn copy(&self) -> Result<Locals, NoMemory>
         ensures { IfOk result (λ l. l ≡ self.now) }
     {
-        let mut rows = Vec::new(*self.rows.allocator());
-        for row in &self.rows {
-            let name = row.0.copy()?;
-            if rows.push((name, row.1)).is_err() {
-                return Err(NoMemory);
-            }
+        match Vec::from_slice(*self.rows.allocator(), self.rows.as_slice()) {
+            Ok(rows) => Ok(Locals { rows }),
+            Err(_) => Err(NoMemory),
         }
-        Ok(Locals { rows })
     }
 
     /// How many names there are.
@@ -80,14 +77,14 @@ impl Locals {
     }
 
     /// The name at `i`, from 0, and its actor; None exactly at the length and above.
-    pub fn get(&self, i: usize) -> Option<&(Octets, ActorId)>
+    pub fn get(&self, i: usize) -> Option<&(LocalName, ActorId)>
         ensures { option_copied result ≡ slice_get self.now i }
     {
         self.rows.get(i)
     }
 
     /// The names in order, each with its actor.
-    pub fn iter(&self) -> Iter<'_, (Octets, ActorId)>
+    pub fn iter(&self) -> Iter<'_, (LocalName, ActorId)>
         ensures rest { iter_rest result ≡ self.now }
         ensures len { length (iter_rest result) ≡ length self.now }
         ensures bound { length (iter_rest result) < 2 ^ 64 }
@@ -136,7 +133,7 @@ impl Locals {
 }
 
 /// How the name of a row stands to another.
-fn row_cmp(row: &(Octets, ActorId), name: &[u8]) -> Ordering
+fn row_cmp(row: &(LocalName, ActorId), name: &[u8]) -> Ordering
     ensures { result ≡ row_cmp row.now name.now }
 {
     row.0.as_slice().cmp(name)

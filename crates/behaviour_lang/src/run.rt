@@ -8,7 +8,8 @@ ghost use Rattle.behaviour_lang.specs.declared.instr.Instr.TheVariants.{Drop as 
 use crate::act::{Act, Step};
 use crate::bound::BoundNames;
 use crate::instr::{Instr, Name, NameList};
-use crgc_ids::{NoMemory, Octets};
+use crate::local_name::LocalName;
+use crgc_ids::NoMemory;
 use std::alloc::Global;
 
 /// What an instruction does: it makes a step, or it is passed; a `keep` that is passed may have moved a reference.
@@ -25,7 +26,7 @@ pub(crate) struct Run {
     pub(crate) names: BoundNames,
     pub(crate) position: usize,
     pub(crate) root: bool,
-    pub(crate) owed: Option<Octets>,
+    pub(crate) owed: Option<LocalName>,
     pub(crate) alloc: Global,
 }
 
@@ -89,7 +90,7 @@ impl Run {
         ensures err { OnErr result (self.new ≡ self.old) }
     {
         match instr {
-            Instr::Spawn { name, behaviour } => self.spawn(name, *behaviour),
+            Instr::Spawn { name, behaviour } => Ok(self.spawn(name, *behaviour)),
             Instr::Send { to, refs } => self.send(to, refs),
             Instr::Drop { name } => Ok(self.drop_name(name)),
             Instr::Keep { name, message } => self.keep(name, *message as usize),
@@ -101,25 +102,21 @@ impl Run {
         }
     }
 
-    fn spawn(&mut self, name: &Octets, behaviour: u32) -> Result<Tried, NoMemory>
+    fn spawn(&mut self, name: &LocalName, behaviour: u32) -> Tried
         requires none_owed { self.old.owed ≡ None }
         requires room { self.old.position + 1 < 2 ^ 64 }
-        ensures ok { IfOk result (λ tried. Does (Spawns name.now behaviour) tried self.old self.new) }
-        ensures err { OnErr result (self.new ≡ self.old) }
+        ensures { Does (Spawns name.now behaviour) result self.old self.new }
     {
         match self.names.find_local(name.as_slice()) {
             Some(target) => {
                 self.names.unbind_local(name.as_slice());
-                Ok(Tried::Step(Step::Act(Act::Drop { target })))
+                Tried::Step(Step::Act(Act::Drop { target }))
             }
-            None => match name.copy() {
-                Ok(name) => {
-                    self.owed = Some(name);
-                    self.position += 1;
-                    Ok(Tried::Step(Step::Act(Act::Spawn { behaviour })))
-                }
-                Err(fault) => Err(fault),
-            },
+            None => {
+                self.owed = Some(*name);
+                self.position += 1;
+                Tried::Step(Step::Act(Act::Spawn { behaviour }))
+            }
         }
     }
 
@@ -163,7 +160,7 @@ impl Run {
         }
     }
 
-    fn keep(&mut self, name: &Octets, k: usize) -> Result<Tried, NoMemory>
+    fn keep(&mut self, name: &LocalName, k: usize) -> Result<Tried, NoMemory>
         requires none_owed { self.old.owed ≡ None }
         requires room { self.old.position + 1 < 2 ^ 64 }
         ensures ok { IfOk result (λ tried. Does (Keeps name.now k) tried self.old self.new) }
@@ -182,7 +179,7 @@ impl Run {
                 Ok(Tried::Step(Step::Act(Act::Drop { target })))
             }
             (Some(actor), None) => {
-                self.names.keep(name.copy()?, k, actor)?;
+                self.names.keep(*name, k, actor)?;
                 self.position += 1;
                 Ok(Tried::Moved)
             }

@@ -97,12 +97,9 @@ impl Turn {
         ensures ok { OnOk result (self.new ≡ record self.old { names = with_child self.old.owed child self.old.names; owed = None }) }
         ensures err { OnErr result (self.new ≡ self.old) }
     {
-        if let Some(name) = &self.run.owed {
-            match name.copy() {
-                Ok(name) => match self.run.names.bind(name, child) {
-                    Ok(()) => {}
-                    Err(fault) => return Err(fault),
-                },
+        if let Some(name) = self.run.owed {
+            match self.run.names.bind(name, child) {
+                Ok(()) => {}
                 Err(fault) => return Err(fault),
             }
         }

@@ -1,13 +1,13 @@
 //! A script whose behaviours are still named by their names.
 use crate::script::TieList;
-use behaviour_lang::Instr;
+use behaviour_lang::{Instr, LocalName};
 use crgc_ids::{ItemList, NodeId, Octets};
 use fault_plan::{CrashRows, LinkRows};
 
 /// An instruction: a spawn that names its behaviour, or any other.
 #[derive(Debug, Drop)]
 pub enum DraftInstr {
-    Spawn { name: Octets, behaviour: Octets },
+    Spawn { name: LocalName, behaviour: Octets },
     Other(Instr),
 }
 

@@ -1,6 +1,6 @@
 //! Scripts.
-use behaviour_lang::Code;
-use crgc_ids::{ItemList, NodeId, Octets};
+use behaviour_lang::{Code, LocalName};
+use crgc_ids::{ItemList, NodeId};
 use fault_plan::Plan;
 use std::marker::Model;
 
@@ -20,7 +20,7 @@ pub type SeedList = ItemList<Seed>;
 pub struct Tie {
     pub from: u32,
     pub to: u32,
-    pub name: Octets,
+    pub name: LocalName,
 }
 
 /// Ties in order.

@@ -5,7 +5,7 @@ use Rattle.behaviour_lang.proofs.locals.Locals.bind.Goals.{in-Ok, in-Err}
 use Rattle.behaviour_lang.proofs.locals.Locals.bind.Goals as goal
 
 -- the place, seen among the rows
-gap_here : (c : goal.Joined-insert-2) → IsGapFor c.args.name c.self.inside.rows.items c.gap-at.result
+gap_here : (c : goal.Joined-insert) → IsGapFor c.args.name c.self.inside.rows.items c.gap-at.result
 gap_here c = rw (← c.as_slice.ensures, c.self.view_is) c.gap-at.ensures
 
 pub invariant_of-self : goal.invariant_of-self

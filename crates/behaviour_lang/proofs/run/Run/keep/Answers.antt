@@ -14,7 +14,7 @@ returns-in_ok-keep-in-Some-None-clause-ok c =
     let message : bound (Message c.args.k) names ≡ Some c.in-Some-None.actor = search rules in
     let unbound : bound (Local c.args.name.now) names ≡ None = search rules in (
       record {
-        same_next = λ instrs e. rw (e, message, unbound, without_unbound _ names unbound, c.in_ok-keep-in-Some-None.ensures.ok, c.in_ok-copy-in-Some-None.ensures) refl;
+        same_next = λ instrs e. rw (e, message, unbound, without_unbound _ names unbound, c.in_ok-keep-in-Some-None.ensures.ok) refl;
         position = refl;
         none_owed = c.requires.none_owed;
       },
@@ -24,7 +24,7 @@ returns-in_ok-keep-in-Some-None-clause-ok c =
           flag = flag_of_bound c.args.k held.refs held.flags held.locals c.in-Some-None.actor message;
           unbound = sym (bound-past c.args.name.now 0 held.refs held.flags (local_names held.locals)) ∙ unbound;
         };
-        kept = rw c.in_ok-copy-in-Some-None.ensures at c.in_ok-keep-in-Some-None.ensures.kept;
+        kept = c.in_ok-keep-in-Some-None.ensures.kept;
         others = refl;
       },
     )

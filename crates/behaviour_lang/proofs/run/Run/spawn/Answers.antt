@@ -6,8 +6,8 @@ use Rattle.behaviour_lang.proofs.NameLaws.{without_unbound}
 use Rattle.behaviour_lang.proofs.run.Run.spawn.Goals as goal
 
 -- the name is not bound, and waits for the child
-pub returns-in-Ok-clause-ok : goal.returns-in-Ok-clause-ok
-returns-in-Ok-clause-ok c = λ instrs e.
+pub returns-in-None : goal.returns-in-None
+returns-in-None c = λ instrs e.
     let names = names_of c.args.self.now.names in
     let unbound : bound (Local c.args.name.now) names ≡ None = rw c.as_slice.ensures at (sym c.find_local.ensures ∙ c.in-None.is) in
-    rw (e, unbound, without_unbound _ names unbound, c.in-Ok.ensures) refl
+    rw (e, unbound, without_unbound _ names unbound) refl
