@@ -2,8 +2,8 @@
 ghost use Rattle.std.specs.Prelude.{◌≡◌, length, IfOk};
 
 use behaviour_lang::{
-    Act, Behaviour, BehaviourList, Code, Instr, InstrList, List, Locals, Name, NameList, Step,
-    Turn, is_behaviour_name, is_local_name, message_number,
+    Act, Behaviour, BehaviourList, Code, Instr, InstrList, List, LocalName, Locals, Name, NameList,
+    Step, Turn, is_behaviour_name, is_local_name, message_number,
 };
 use crgc_ids::{ActorId, NoMemory, NodeId, Octets, RefList};
 use std::alloc::Global;
@@ -73,9 +73,17 @@ fn actor(node: u8, serial: u32) -> Option<ActorId> {
 }
 
 #[test]
+fn a_local_name_has_at_most_16_bytes(rt: HostRuntime) -> Result<(), Fail> {
+    let longest = LocalName::new(b"abcdefghijklmnop").ok_or("sixteen bytes")?;
+    assert_eq!(rt; longest.as_slice(), b"abcdefghijklmnop".as_slice());
+    assert!(rt; LocalName::new(b"abcdefghijklmnopq").is_none());
+    Ok(())
+}
+
+#[test]
 fn a_local_name_is_bound(rt: HostRuntime) -> Result<(), Fail> {
     let own = actor(0, 0).ok_or("an actor")?;
-    let name = Octets::from_vec(Vec::from_slice(rt.alloc(), b"self")?);
+    let name = LocalName::own();
     let mut locals = Locals::new(rt.alloc());
     locals.bind(name, own)?;
     let same = locals.copy()?;
@@ -92,7 +100,7 @@ fn parents(alloc: Global) -> Result<Code, NoMemory>
 {
     let mut wake = InstrList::new(alloc);
     wake.push(Instr::Spawn {
-        name: Octets::from_vec(Vec::from_slice(alloc, b"child").map_err(|_| NoMemory)?),
+        name: LocalName::new(b"child").unwrap(),
         behaviour: 0,
     })?;
     let mut behaviours = BehaviourList::new(alloc);

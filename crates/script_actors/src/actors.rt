@@ -19,8 +19,8 @@ ghost use Rattle.script_actors.specs.Standing.{AreActorsAt, names_now};
 ghost use Rattle.script_actors.specs.Turns.{IsTurnOf, left_now};
 
 use crate::rows::{NodeRows, Row};
-use behaviour_lang::{Code, Locals, Turn};
-use crgc_ids::{ActorId, NoMemory, Octets, RefList};
+use behaviour_lang::{Code, LocalName, Locals, Turn};
+use crgc_ids::{ActorId, NoMemory, RefList};
 use std::alloc::Global;
 use std::marker::Model;
 
@@ -181,9 +181,6 @@ pub(crate) fn own_names(alloc: Global, actor: ActorId) -> Result<Locals, NoMemor
     ensures { IfOk result (λ names. local_names names ≡ own_name actor) }
 {
     let mut names = Locals::new(alloc);
-    match Vec::from_slice(alloc, b"self") {
-        Ok(name) => names.bind(Octets::from_vec(name), actor)?,
-        Err(_) => return Err(NoMemory),
-    }
+    names.bind(LocalName::own(), actor)?;
     Ok(names)
 }

@@ -12,7 +12,8 @@ ghost use Rattle.crgc_ids.specs.declared.limits.TheConstants.{MOST_ACTORS};
 
 use crate::actors::ScriptActors;
 use crate::rows::{NodeRows, Row};
-use crgc_ids::{ActorId, ActorList, NoMemory, NodeId, Octets};
+use behaviour_lang::LocalName;
+use crgc_ids::{ActorId, ActorList, NoMemory, NodeId};
 use script_reader::Script;
 use std::alloc::Global;
 
@@ -91,21 +92,21 @@ impl ScriptActors {
         ensures nodes { OnOk result (length self.new ≡ length self.old) }
     {
         for tie in script.ties.as_slice() {
-            self.bind(seeds[tie.from as usize], &tie.name, seeds[tie.to as usize])?;
+            self.bind(seeds[tie.from as usize], tie.name, seeds[tie.to as usize])?;
         }
         Ok(())
     }
 
     // The actor binds the name, which is not bound in it.
-    fn bind(&mut self, actor: ActorId, name: &Octets, target: ActorId) -> Result<(), NoMemory>
+    fn bind(&mut self, actor: ActorId, name: LocalName, target: ActorId) -> Result<(), NoMemory>
         requires here { IsSome (names_at self.old actor) }
         requires free { (names : List (List ℕ × Actor)) → names_at self.old actor ≡ Some names
-            → bound (Local name.now) (local_names names) ≡ None }
-        ensures { OnOk result (Binds self.old self.new actor name.now target) }
+            → bound (Local name) (local_names names) ≡ None }
+        ensures { OnOk result (Binds self.old self.new actor name target) }
     {
         let behaviour = self.behaviour(actor);
         let mut names = self.take_names(actor, behaviour);
-        names.bind(name.copy()?, target)?;
+        names.bind(name, target)?;
         let _out = self.replace(
             actor,
             Row {

@@ -8,9 +8,9 @@ ghost use Rattle.script_reader.specs.Walk.{each};
 
 use crate::draft::{DraftInstr, DraftInstrs};
 use crate::fault::{Flaw, Halt};
-use crate::walk::{members_of, number_of, octets, optional_at};
+use crate::walk::{local_name, members_of, number_of, octets, optional_at};
 use crate::words::Word;
-use behaviour_lang::{Instr, Name, NameList, is_behaviour_name, is_local_name, message_number};
+use behaviour_lang::{Instr, Name, NameList, is_behaviour_name, message_number};
 use serde_json::Value;
 use std::alloc::Global;
 
@@ -35,7 +35,7 @@ fn two(operands: &[Value]) -> Option<(&Value, &Value)>
 
 /// `self`, a message name or a local name.
 #[tactic(auto, unfolding(crate::specs::Instructions::name_of))]
-fn name_of(alloc: Global, key: Word, text: &str) -> Result<Name, Halt>
+fn name_of(key: Word, text: &str) -> Result<Name, Halt>
     ensures { Gives result (name_of key text.now) }
 {
     if text == "self" {
@@ -44,17 +44,17 @@ fn name_of(alloc: Global, key: Word, text: &str) -> Result<Name, Halt>
     if let Some(k) = message_number(text.as_bytes()) {
         return Ok(Name::Message(k));
     }
-    if !is_local_name(text.as_bytes()) {
-        return Err(Halt::At(Flaw::Range(key)));
+    match local_name(text) {
+        Some(name) => Ok(Name::Local(name)),
+        None => Err(Halt::At(Flaw::Range(key))),
     }
-    Ok(Name::Local(octets(alloc, text)?))
 }
 
-fn operand_name(alloc: Global, key: Word, operand: &Value) -> Result<Name, Halt>
+fn operand_name(key: Word, operand: &Value) -> Result<Name, Halt>
     ensures { Gives result (operand_name key (view operand.now)) }
 {
     match operand.as_str() {
-        Some(text) => name_of(alloc, key, text),
+        Some(text) => name_of(key, text),
         None => Err(Halt::At(Flaw::Kind(key))),
     }
 }
@@ -72,10 +72,12 @@ fn spawn(alloc: Global, key: Word, operands: &[Value]) -> Result<DraftInstr, Hal
     let Some(behaviour) = second.as_str() else {
         return Err(Halt::At(Flaw::Kind(key)));
     };
-    if !is_local_name(name.as_bytes()) || !is_behaviour_name(behaviour.as_bytes()) {
+    let Some(name) = local_name(name) else {
+        return Err(Halt::At(Flaw::Range(key)));
+    };
+    if !is_behaviour_name(behaviour.as_bytes()) {
         return Err(Halt::At(Flaw::Range(key)));
     }
-    let name = octets(alloc, name)?;
     let behaviour = octets(alloc, behaviour)?;
     Ok(DraftInstr::Spawn { name, behaviour })
 }
@@ -99,7 +101,7 @@ fn names(alloc: Global, key: Word, operands: &[Value]) -> Result<NameList, Halt>
 {
     let mut names = NameList::new(alloc);
     for operand in operands {
-        names.push(operand_name(alloc, key, operand)?)?;
+        names.push(operand_name(key, operand)?)?;
     }
     Ok(names)
 }
@@ -114,7 +116,7 @@ fn send_to(alloc: Global, key: Word, operands: &[Value]) -> Result<DraftInstr, H
     if others.len() > 16 {
         return Err(Halt::At(Flaw::Range(key)));
     }
-    let to = operand_name(alloc, key, first)?;
+    let to = operand_name(key, first)?;
     let refs = names(alloc, key, others)?;
     Ok(DraftInstr::Other(Instr::Send { to, refs }))
 }
@@ -131,18 +133,18 @@ fn send(alloc: Global, key: Word, operands: &[Value]) -> Result<DraftInstr, Halt
 }
 
 #[tactic(auto, unfolding(crate::specs::Instructions::drop_of))]
-fn drop_name(alloc: Global, key: Word, operands: &[Value]) -> Result<DraftInstr, Halt>
+fn drop_name(key: Word, operands: &[Value]) -> Result<DraftInstr, Halt>
     ensures { Gives result (drop_of key (map view operands.now)) }
 {
     let Some(operand) = one(operands) else {
         return Err(Halt::At(Flaw::Kind(key)));
     };
-    let name = operand_name(alloc, key, operand)?;
+    let name = operand_name(key, operand)?;
     Ok(DraftInstr::Other(Instr::Drop { name }))
 }
 
 #[tactic(auto, unfolding(crate::specs::Instructions::keep_of))]
-fn keep(alloc: Global, key: Word, operands: &[Value]) -> Result<DraftInstr, Halt>
+fn keep(key: Word, operands: &[Value]) -> Result<DraftInstr, Halt>
     ensures { Gives result (keep_of key (map view operands.now)) }
 {
     let Some((first, second)) = two(operands) else {
@@ -154,13 +156,12 @@ fn keep(alloc: Global, key: Word, operands: &[Value]) -> Result<DraftInstr, Halt
     let Some(text) = second.as_str() else {
         return Err(Halt::At(Flaw::Kind(key)));
     };
-    if !is_local_name(name.as_bytes()) {
+    let Some(name) = local_name(name) else {
         return Err(Halt::At(Flaw::Range(key)));
-    }
+    };
     let Some(message) = message_number(text.as_bytes()) else {
         return Err(Halt::At(Flaw::Range(key)));
     };
-    let name = octets(alloc, name)?;
     Ok(DraftInstr::Other(Instr::Keep { name, message }))
 }
 
@@ -206,9 +207,9 @@ fn instruction_with(
     } else if word == "send" {
         send(alloc, key, operands)
     } else if word == "drop" {
-        drop_name(alloc, key, operands)
+        drop_name(key, operands)
     } else if word == "keep" {
-        keep(alloc, key, operands)
+        keep(key, operands)
     } else if word == "work" {
         work(key, operands)
     } else if word == "retire" {

@@ -90,12 +90,12 @@ fn seeds_of_tie(value: &Value, seeds: u32) -> Result<(u32, u32), Halt>
 }
 
 #[tactic(auto, unfolding(crate::specs::Rows::tie_row))]
-fn tie(alloc: Global, value: &Value, seeds: u32) -> Result<Tie, Halt>
+fn tie(value: &Value, seeds: u32) -> Result<Tie, Halt>
     ensures { Gives result (tie_row seeds (view value.now)) }
 {
     object_at(value, Word::Tie, &[Word::From, Word::To, Word::As])?;
     let (from, to) = seeds_of_tie(value, seeds)?;
-    let name = local_name_at(alloc, value, Word::As)?;
+    let name = local_name_at(value, Word::As)?;
     Ok(Tie { from, to, name })
 }
 
@@ -185,7 +185,7 @@ fn ties(alloc: Global, values: &[Value], seeds: u32) -> Result<TieList, Halt>
 {
     let mut rows = Ties::new(alloc);
     for value in values {
-        let tie = tie(alloc, value, seeds)?;
+        let tie = tie(value, seeds)?;
         if !rows.add(tie)? {
             return Err(Halt::At(Flaw::Range(Word::As)));
         }

@@ -1,5 +1,5 @@
 //! Reading keys of JSON objects.
-ghost use Rattle.std.specs.Prelude.{◌≡◌, ◌<◌, ◌≤◌, IfOk, length, map, option_map, Some, None, string_bytes};
+ghost use Rattle.std.specs.Prelude.{◌≡◌, ◌<◌, ◌≤◌, IfOk, length, map, option_map, Some, None, if◌then◌else◌, string_bytes};
 ghost use Rattle.serde_json.specs.View.{view, items_view};
 ghost use Rattle.serde_json.specs.Find.{as_array};
 ghost use Rattle.behaviour_lang.specs.Names.{is_behaviour_name, is_local_name};
@@ -10,7 +10,7 @@ ghost use Rattle.script_reader.specs.Gives.{Gives, GivesAs};
 
 use crate::fault::{Flaw, Halt};
 use crate::words::Word;
-use behaviour_lang::{is_behaviour_name, is_local_name};
+use behaviour_lang::{LocalName, is_behaviour_name, is_local_name};
 use crgc_ids::Octets;
 use serde_json::Value;
 use serde_json::value::Map;
@@ -75,8 +75,20 @@ pub fn behaviour_name_at(alloc: Global, value: &Value, key: Word) -> Result<Octe
     Ok(octets(alloc, text)?)
 }
 
+/// The local name that is spelled so; None exactly where the text spells none.
+#[tactic(auto, unfolding(behaviour_lang::specs::Names::is_local_name))]
+pub fn local_name(text: &str) -> Option<LocalName>
+    ensures { result ≡ (if is_local_name text.now then Some text.now else None) }
+{
+    if is_local_name(text.as_bytes()) {
+        LocalName::new(text.as_bytes())
+    } else {
+        None
+    }
+}
+
 /// A local name at a key.
-pub fn local_name_at(alloc: Global, value: &Value, key: Word) -> Result<Octets, Halt>
+pub fn local_name_at(value: &Value, key: Word) -> Result<LocalName, Halt>
     ensures { Gives result (text_at key is_local_name (view value.now)) }
 {
     let Some(found) = value.get(key.text()) else {
@@ -85,10 +97,10 @@ pub fn local_name_at(alloc: Global, value: &Value, key: Word) -> Result<Octets, 
     let Some(text) = found.as_str() else {
         return Err(Halt::At(Flaw::Kind(key)));
     };
-    if !is_local_name(text.as_bytes()) {
-        return Err(Halt::At(Flaw::Range(key)));
+    match local_name(text) {
+        Some(name) => Ok(name),
+        None => Err(Halt::At(Flaw::Range(key))),
     }
-    Ok(octets(alloc, text)?)
 }
 
 /// The members of an array that has at most so many.
