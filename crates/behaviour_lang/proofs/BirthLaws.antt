@@ -1,13 +1,15 @@
 -- A birth is owed exactly after a spawn.
-use Rattle.std.proofs.Common.{◌≡◌, Bool, true, false, List, [], ◌∷◌, drop, Option, Some, None, is_some, refl, subst}
+use Rattle.std.proofs.Common.{◌≡◌, ◌+◌, Bool, true, false, List, [], ◌∷◌, drop, Option, Some, None, is_some, refl, sym, subst}
 use Rattle.crgc_ids.specs.Actor.{Actor}
-use Rattle.behaviour_lang.specs.Bound.{Names, bound, without, first_message}
+use Rattle.behaviour_lang.specs.Bound.{Names, bound, without, first_message, past_first_message}
 use Rattle.behaviour_lang.specs.Turn.{drop_of, bound_all, send_of, drop_for_keep, kept}
 use Rattle.behaviour_lang.specs.Held.{names_of}
 use Rattle.behaviour_lang.specs.Running.{IsStep}
 use Rattle.behaviour_lang.specs.Steps.{Left, Next, next, next_act}
 use Rattle.behaviour_lang.specs.TurnState.{is_spawn}
+use Rattle.behaviour_lang.specs.declared.act.Act.{Act}
 use Rattle.behaviour_lang.specs.declared.act.Step.{Step}
+use Rattle.behaviour_lang.specs.declared.act.Step.TheVariants as steps
 use Rattle.behaviour_lang.specs.declared.instr.Instr.{Instr}
 use Rattle.behaviour_lang.specs.declared.instr.Instr.TheVariants.{Spawn, Send, Drop, Keep, Work, Retire}
 use Rattle.behaviour_lang.specs.declared.instr.Name.TheVariants.{Message, Local}
