@@ -4,7 +4,7 @@ use crgc_ids::{ActorCount, PairCount};
 use history_model::{Bulletin, Delta, StateRow, Window};
 use std::alloc::Global;
 
-/// A vector with more room than this is not kept.
+/// A vector of rows with more room than this is not kept; the room of the table is, whatever it is.
 const MOST_KEPT: usize = 1024;
 
 /// The vectors of bulletins that were given up, for those that are read next, so that reading takes memory only where a
