@@ -1,7 +1,7 @@
 -- Rows that keep one fact more, or all references of a message, and what they add up to.
-use Rattle.std.proofs.Common.{◌≡◌, ◌+◌, ◌<◌, ◌≤◌, ◌^◌, ◌&&◌, ℕ, zero, suc, take, drop, Bool, true, false, cond, List, [], ◌∷◌, ◌++◌, map, refl, sym, ◌∙◌, ap, subst, arith}
+use Rattle.std.proofs.Common.{◌≡◌, ◌+◌, ◌-◌, ◌<◌, ◌≤◌, ◌^◌, ◌&&◌, ℕ, zero, suc, length, take, drop, Bool, true, false, cond, List, [], ◌∷◌, ◌++◌, map, Result, Ok, Err, OnErr, OnOk, refl, sym, ◌∙◌, ap, subst, arith}
 use Rattle.std.proofs.ByRecursion.{All-append, All-push}
-use Rattle.std.proofs.lemmas.List.{map-append, take-append-drop, take-map}
+use Rattle.std.proofs.lemmas.List.{length-map, map-append, take-append-drop, take-map}
 use Rattle.std.proofs.lemmas.List.Sums.{sum_by-append, sum_by-cons}
 use Rattle.std.specs.List.{AllByRecursion, count_by}
 use Rattle.crgc_ids.specs.Actor.{Actor, same_actor}
@@ -10,6 +10,7 @@ use Rattle.crgc_ids.specs.declared.rising.PairCount.{PairCount}
 use Rattle.crgc_ids.proofs.ActorLaws.{same_actor-decides}
 use Rattle.row_sums.specs.Totals.{actor_total, pair_total}
 use Rattle.row_sums.proofs.OnesLemmas.{fits-push, total-ones}
+use Rattle.entry_records.specs.Ends.{EndLists}
 use Rattle.entry_records.specs.Keeping.{KeepActors, KeepPairs}
 use Rattle.entry_records.specs.Unflushed.{actor_count, actors_in, pair_count, pairs_in}
 
@@ -32,6 +33,17 @@ count-first p n xs =
     let whole = ap (count_by p) (take-append-drop n xs) in
     omega arith
 
+-- the values of all items but the last n are all values but the last n
+pub map-cut : {X Y : Type 0} (f : X → Y) (xs : List X) (n : ℕ) → map f (take (length xs - n) xs) ≡ take (length (map f xs) - n) (map f xs)
+map-cut f xs n = sym (take-map f (length xs - n) xs) ∙ ap (λ m. take (m - n) (map f xs)) (sym (length-map xs f))
+
+-- ---- the lists after a call
+
+-- what holds of the lists before a call, and of those that a success gives, holds of those after it
+pub ends-after : {A E : Type 0} (P : EndLists → Type 0) (r : Result A E) (old given new : EndLists) → P old → P given → OnOk r (new ≡ given) → OnErr r (new ≡ old) → P new
+ends-after P (Ok x) old given new before after ok err = subst P (sym ok) after
+ends-after P (Err e) old given new before after ok err = subst P (sym err) before
+
 -- ---- actors
 
 abbrev pub one_actor : Actor → ActorCount
@@ -48,11 +60,6 @@ actors-push rows a kept fits =
           (λ t. subst (λ c. actor_count c (actors_in rows) + 1 < 2 ^ 32) (sym ((same_actor-decides b a).0 t)) fits)
           );
     }
-
--- one actor more where the push succeeds
-pub actors-pushed : (ok : Bool) (rows rows' : List ActorCount) (a : Actor) → KeepActors rows → actor_count a (actors_in rows) + 1 < 2 ^ 32 → rows' ≡ cond ok (rows ++ one_actor a ∷ []) rows → KeepActors rows'
-actors-pushed true rows rows' a kept fits e = subst KeepActors (sym e) (actors-push rows a kept fits)
-actors-pushed false rows rows' a kept fits e = subst KeepActors (sym e) kept
 
 -- the first actors alone
 pub actors-first : (n : ℕ) (rows : List ActorCount) → KeepActors rows → KeepActors (take n rows)

@@ -2,6 +2,7 @@
 #![tactic(auto)]
 
 mod actor_log;
+mod ends;
 pub mod laws;
 mod notes;
 

@@ -6,7 +6,8 @@ ghost use Rattle.history_model.specs.Ledgers.{IsInOrder, entry_ledger};
 ghost use Rattle.history_model.specs.Tells.{TellsEntry};
 ghost use Rattle.entry_records.specs.Unflushed.{actor_count, facts_noted, is_nothing, nothing_unflushed, pair_count, without_last_sent};
 
-use crgc_ids::{ActorCount, ActorId, NoMemory, PairCount};
+use crate::ends::{Ends, copy_rows};
+use crgc_ids::{ActorId, NoMemory, PairCount};
 use history_model::Entry;
 use row_sums::{sum_of_counts, sum_of_pairs};
 use std::alloc::Global;
@@ -17,9 +18,8 @@ use std::marker::Model;
 #[derive(Drop)]
 pub struct Notes {
     received: u32,
-    sent: Vec<ActorCount>,
     created: Vec<PairCount>,
-    released: Vec<ActorCount>,
+    ends: Ends,
 }
 
 impl Model for Notes {
@@ -30,12 +30,12 @@ impl Model for Notes {
 
     ghost view = { λ n. record {
       received = n.received;
-      sent = actors_in n.sent.items;
+      sent = actors_in n.ends.sent;
       created = pairs_in n.created.items;
-      released = actors_in n.released.items;
+      released = actors_in n.ends.released;
     } };
 
-    ghost invariant = { λ n. KeepNotes n.sent.items n.created.items n.released.items };
+    ghost invariant = { λ n. KeepNotes n.ends.sent n.created.items n.ends.released };
 }
 
 impl Notes {
@@ -45,9 +45,8 @@ impl Notes {
     {
         Notes {
             received: 0,
-            sent: Vec::new(alloc),
             created: Vec::new(alloc),
-            released: Vec::new(alloc),
+            ends: Ends::new(alloc),
         }
     }
 
@@ -80,13 +79,10 @@ impl Notes {
         }) }
         ensures err { OnErr result (self.new ≡ self.old) }
     {
-        if self.sent.reserve(1).is_err() || self.created.reserve(refs.len()).is_err() {
+        if self.created.reserve(refs.len()).is_err() {
             return Err(NoMemory);
         }
-        self.sent.push_reserved(ActorCount {
-            actor: to,
-            count: 1,
-        });
+        self.ends.add_sent(to)?;
         put_pairs(&mut self.created, to, refs);
         Ok(())
     }
@@ -95,8 +91,7 @@ impl Notes {
     pub fn take_back_sent(&mut self, refs: usize)
         ensures { self.new ≡ without_last_sent refs self.old }
     {
-        let sent = self.sent.len().saturating_sub(1);
-        self.sent.truncate(sent);
+        self.ends.take_back_sent();
         let created = self.created.len().saturating_sub(refs);
         self.created.truncate(created);
     }
@@ -124,38 +119,27 @@ impl Notes {
         ensures ok { OnOk result (self.new ≡ record self.old { released = self.old.released ++ target ∷ [] }) }
         ensures err { OnErr result (self.new ≡ self.old) }
     {
-        let row = ActorCount {
-            actor: target,
-            count: 1,
-        };
-        match self.released.push(row) {
-            Ok(()) => Ok(()),
-            Err(_) => Err(NoMemory),
-        }
+        self.ends.add_released(target)
     }
 
     /// Whether nothing is noted.
     pub fn is_blank(&self) -> bool
         ensures { result ≡ is_nothing self.now }
     {
-        let none_sent = self.sent.as_slice().is_empty();
         let none_created = self.created.as_slice().is_empty();
-        let none_released = self.released.as_slice().is_empty();
-        self.received == 0 && none_sent && none_created && none_released
+        self.received == 0 && none_created && self.ends.is_blank()
     }
 
     /// Equal notes. Linear time.
     pub fn copy(&self) -> Result<Notes, NoMemory>
         ensures { IfOk result (λ n. n ≡ self.now) }
     {
-        let sent = copy_rows(&self.sent)?;
         let created = copy_rows(&self.created)?;
-        let released = copy_rows(&self.released)?;
+        let ends = self.ends.copy()?;
         Ok(Notes {
             received: self.received,
-            sent,
             created,
-            released,
+            ends,
         })
     }
 
@@ -167,8 +151,9 @@ impl Notes {
     {
         let received = self.received;
         let created = sum_of_pairs(self.created);
-        let sent = sum_of_counts(self.sent);
-        let released = sum_of_counts(self.released);
+        let ends = self.ends.into_rows();
+        let sent = sum_of_counts(ends.sent);
+        let released = sum_of_counts(ends.released);
         Entry {
             actor,
             received,
@@ -193,15 +178,5 @@ fn put_pairs(rows: &mut Vec<PairCount>, owner: ActorId, targets: &[ActorId])
             target: *target,
             count: 1,
         });
-    }
-}
-
-/// An equal vector.
-fn copy_rows<T: Copy>(rows: &Vec<T>) -> Result<Vec<T>, NoMemory>
-    ensures { IfOk result (λ v. v.items ≡ rows.now.items) }
-{
-    match Vec::from_slice(*rows.allocator(), rows.as_slice()) {
-        Ok(copied) => Ok(copied),
-        Err(_) => Err(NoMemory),
     }
 }
