@@ -16,13 +16,45 @@ pub fn are_below(rows: &[(ActorId, u32)], target: ActorId) -> bool
     }
 }
 
-/// The place of the target, None where it has none. Logarithmic time.
+/// The place of the target, None where it has none. Constant time where the serials rise evenly, as those of children do, else
+/// logarithmic time.
 pub fn place_of(rows: &[(ActorId, u32)], target: ActorId) -> Option<usize>
     requires { AreRising rows.now }
     ensures some { IfSome result (IsPlaceOf rows.now target) }
     ensures none { IfNone result (found_in rows.now target ≡ None) }
 {
+    let likely = likely_place(rows, target);
+    match rows.get(likely) {
+        Some(row) if row.0 == target => Some(likely),
+        _ => search(rows, target),
+    }
+}
+
+/// The place of the target, None where it has none. Logarithmic time.
+fn search(rows: &[(ActorId, u32)], target: ActorId) -> Option<usize>
+    requires { AreRising rows.now }
+    ensures some { IfSome result (IsPlaceOf rows.now target) }
+    ensures none { IfNone result (found_in rows.now target ≡ None) }
+{
     rows.binary_search_by(|row| row.0.cmp(&target)).ok()
+}
+
+/// Where the target has its place if the serials rise evenly from the first row to the last.
+#[inline(always)]
+fn likely_place(rows: &[(ActorId, u32)], target: ActorId) -> usize {
+    let (Some(first), Some(last)) = (rows.first(), rows.last()) else {
+        return 0;
+    };
+    let first = u64::from(first.0.serial());
+    let span = u64::from(last.0.serial()).saturating_sub(first);
+    let ahead = u64::from(target.serial()).saturating_sub(first);
+    match ahead
+        .saturating_mul(rows.len() as u64 - 1)
+        .checked_div(span)
+    {
+        Some(place) => place as usize,
+        None => 0,
+    }
 }
 
 /// The target, which is above all the others, comes last. Where the vector is full, those with a count of 0 go. Amortized constant

@@ -3,7 +3,7 @@ use Rattle.std.proofs.lemmas.Fn.{always_returns_same}
 use Rattle.std.specs.List.Sorted.{IsBinarySearchResult}
 use Rattle.crgc_ids.specs.Actor.{actor_cmp}
 use Rattle.refob_counts.proofs.RisingLemmas.{searched}
-use Rattle.refob_counts.proofs.rising.place_of.Goals as goal
+use Rattle.refob_counts.proofs.rising.search.Goals as goal
 
 -- the closure compares a row's target
 by_target : (c : goal.After-ok) → IsBinarySearchResult (λ row. actor_cmp row.0 c.args.target) c.args.rows.now c.binary_search_by.result
