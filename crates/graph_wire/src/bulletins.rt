@@ -8,7 +8,7 @@ ghost use Rattle.graph_wire.specs.Gives.{Gives, GivesPrefix};
 
 use crate::fault::{ReadFault, fault};
 use crate::reading::{counts_at, node_at, pairs_at, states_at, table_at, u8_at, u32_at};
-use crate::spare::Spare;
+use crate::spare::{Spare, keep};
 use crate::table::unnamed;
 use crgc_bytes::Cursor;
 use crgc_ids::NodeId;
@@ -35,7 +35,7 @@ fn delta_at(spare: &mut Spare, cursor: &mut Cursor<'_>, wide: bool) -> Result<De
     let created = pairs_at(&mut spare.created, cursor, wide, actors)?;
     let released = pairs_at(&mut spare.released, cursor, wide, actors)?;
     let unused = unnamed(actors, first);
-    spare.table = table;
+    keep(&mut spare.table, table);
     match unused {
         Some(offset) => Err(fault(WireKind::Unused, offset)),
         None => Ok(Delta {
@@ -72,7 +72,7 @@ fn window_at(spare: &mut Spare, cursor: &mut Cursor<'_>, wide: bool) -> Result<W
     let messages = counts_at(&mut spare.counts, cursor, wide, actors)?;
     let carried = pairs_at(&mut spare.created, cursor, wide, actors)?;
     let unused = unnamed(actors, first);
-    spare.table = table;
+    keep(&mut spare.table, table);
     match unused {
         Some(offset) => Err(fault(WireKind::Unused, offset)),
         None => Ok(Window {

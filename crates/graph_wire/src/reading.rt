@@ -18,8 +18,9 @@ use history_model::{StateRow, StateRows};
 use std::mem;
 use wire_grammar::WireKind;
 
-/// For how many rows there is room at first, at most: a count that is read may be too high.
-const MOST_AT_FIRST: u32 = 1024;
+/// For how many rows there is room at first, at most: a count that is read may be too high, and then 786,432 bytes are asked for at
+/// most, and given back unused.
+const MOST_AT_FIRST: u32 = 65_536;
 
 /// The spare vector, emptied, with room for so many rows, or for some of them.
 fn with_room<T: Copy>(spare: &mut Vec<T>, count: u32) -> Result<Vec<T>, NoMemory>

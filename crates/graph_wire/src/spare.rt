@@ -4,7 +4,7 @@ use crgc_ids::{ActorCount, PairCount};
 use history_model::{Bulletin, Delta, StateRow, Window};
 use std::alloc::Global;
 
-/// A vector of rows with more room than this is not kept; the room of the table is, whatever it is.
+/// A vector with room for more rows than this is not kept.
 const MOST_KEPT: usize = 1024;
 
 /// The vectors of bulletins that were given up, for those that are read next, so that reading takes memory only where a
@@ -53,7 +53,7 @@ impl Spare {
 }
 
 /// The vector is kept as the spare one, unless its room is much.
-fn keep<T: Copy>(spare: &mut Vec<T>, rows: Vec<T>) {
+pub fn keep<T: Copy>(spare: &mut Vec<T>, rows: Vec<T>) {
     if rows.capacity() <= MOST_KEPT {
         *spare = rows;
     }
