@@ -24,18 +24,19 @@ use crgc_ids::{ActorId, Cut, NoMemory, NodeId, NodeSet};
 use edge_table::EdgeTable;
 use history_model::{Bulletin, Delta, Window};
 use membership::Finals;
-use shadow_rows::{add_delta, add_window, settle_lost};
+use shadow_rows::{RowNumbers, add_delta, add_window, settle_lost};
 use shadow_table::{Shadow, ShadowTable};
 use std::alloc::Global;
 use std::marker::Model;
 use undo_log::UndoLog;
 
-/// What all folded bulletins tell of actors and of the references between them. It keeps its allocator. Contracts see the
-/// shadows, the edges, the log of what each node told and what others admitted from it, the Finals and the cut. Where the
-/// cluster has one node alone, nothing is logged.
+/// What all folded bulletins tell of actors and of the references between them. It keeps its allocator, and from fold to fold
+/// up to 8 KB of room for the numbers of edges. Contracts see the shadows, the edges, the log of what each node told and what others
+/// admitted from it, the Finals and the cut. Where the cluster has one node alone, nothing is logged.
 #[derive(Drop)]
 pub struct ShadowGraph {
     alloc: Global,
+    numbers: RowNumbers,
     shadows: ShadowTable,
     edges: EdgeTable,
     log: UndoLog,
@@ -75,6 +76,7 @@ impl ShadowGraph {
         let finals = Finals::new(nodes);
         ShadowGraph {
             alloc,
+            numbers: RowNumbers::new(alloc),
             shadows: ShadowTable::new(alloc),
             edges: EdgeTable::new(alloc),
             log: UndoLog::new(alloc),
@@ -243,7 +245,7 @@ impl ShadowGraph {
         let counts = !self.lost.contains(delta.node);
         let logs = self.is_logging();
         match add_delta(
-            self.alloc,
+            &mut self.numbers,
             &mut self.shadows,
             &mut self.edges,
             &mut self.log,
@@ -275,7 +277,7 @@ impl ShadowGraph {
         let counts = self.lost.contains(window.from);
         let logs = self.is_logging();
         match add_window(
-            self.alloc,
+            &mut self.numbers,
             &mut self.shadows,
             &mut self.edges,
             &mut self.log,

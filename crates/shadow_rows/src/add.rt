@@ -1,5 +1,5 @@
 //! Bulletins whose rows the shadows, the edges and the log take in.
-ghost use Rattle.std.specs.Prelude.{◌≡◌, ◌≤◌, true, false, Bool, Option, IfOk, OnErr, OnOk};
+ghost use Rattle.std.specs.Prelude.{◌≡◌, ◌≤◌, true, false, Bool, Option, OnErr, OnOk, vec_capacity};
 ghost use Rattle.std.specs.List.{AllByRecursion};
 ghost use Rattle.crgc_ids.specs.Actor.{Actor};
 ghost use Rattle.history_model.specs.declared.records.Bulletin.TheVariants as bulletins;
@@ -15,30 +15,30 @@ ghost use Rattle.shadow_rows.specs.Touched.{NamesMore};
 
 use crate::count::count_told;
 use crate::edges::release_all;
-use crate::grow::{RowNumbers, cut_back, grow};
+use crate::grow::{cut_back, grow};
+use crate::row_numbers::RowNumbers;
 use crgc_ids::NoMemory;
 use edge_table::EdgeTable;
 use history_model::Delta;
 use shadow_table::ShadowTable;
-use std::alloc::Global;
 use undo_log::UndoLog;
 
-/// The actors and pairs of the Delta are there, and where it is noted the log has its sends and its created pairs; the answer has
+/// The actors and pairs of the Delta are there, and where it is noted the log has its sends and its created pairs; `numbers` has
 /// the numbers of the pairs' edges. After `NoMemory` some of the actors and pairs may be there.
 fn prepare_delta(
-    alloc: Global,
+    numbers: &mut RowNumbers,
     shadows: &mut ShadowTable,
     edges: &mut EdgeTable,
     log: &mut UndoLog,
     delta: &Delta,
     logs: bool,
-) -> Result<RowNumbers, NoMemory>
+) -> Result<(), NoMemory>
     requires tabled { AreTabled shadows.old.names edges.old }
     requires small { (owner : Option Actor) (target : Actor) → told_by log.old delta.now.node owner target ≤ 4611686018427387904 }
     ensures named { OnOk result (NamesRows shadows.old.names shadows.new.names (ledger_names (delta_ledger delta.now))) }
     ensures fits { OnOk result (CountsFit (delta_ledger delta.now)) }
-    ensures created { IfOk result (λ numbers. AreNumbered edges.new delta.now.created numbers.created.items) }
-    ensures released { IfOk result (λ numbers. AreNumbered edges.new delta.now.released numbers.released.items) }
+    ensures created { OnOk result (AreNumbered edges.new delta.now.created numbers.new.created.items) }
+    ensures released { OnOk result (AreNumbered edges.new delta.now.released numbers.new.released.items) }
     ensures tabled { OnOk result (AreTabled shadows.new.names edges.new) }
     ensures noted { OnOk result (logs ≡ true → Notes log.old log.new delta.now.node sides.Told delta.now.sent delta.now.created) }
     ensures same_log { logs ≡ false → log.new ≡ log.old }
@@ -52,18 +52,18 @@ fn prepare_delta(
     let sent = delta.sent.as_slice();
     let created = delta.created.as_slice();
     let released = delta.released.as_slice();
-    let numbers = grow(alloc, shadows, edges, states, sent, created, released)?;
+    grow(numbers, shadows, edges, states, sent, created, released)?;
     if logs {
         log.note_told(delta.node, &delta.sent, &delta.created)?;
     }
-    Ok(numbers)
+    Ok(())
 }
 
 /// The rows of the Delta are counted, its sends and created pairs only where they count, and noted in the log where `logs`
-/// says so. After `NoMemory` all that is told of actors and pairs is as before. Amortized time in proportion to n log n for n
-/// rows, and logarithmic in the number of edges for each.
+/// says so. After `NoMemory` all that is told of actors and pairs is as before. `numbers` lends its room: what was in it is lost,
+/// and much room is given up. Amortized time in proportion to n log n for n rows, and logarithmic in the number of edges for each.
 pub fn add_delta(
-    alloc: Global,
+    numbers: &mut RowNumbers,
     shadows: &mut ShadowTable,
     edges: &mut EdgeTable,
     log: &mut UndoLog,
@@ -87,16 +87,20 @@ pub fn add_delta(
     ensures edges { OnErr result (edges.new.edges ≡ edges.old.edges) }
     ensures log { OnErr result (log.new ≡ log.old) }
     ensures ordered { IsInOrder (delta_ledger delta.now) }
+    ensures created_room { vec_capacity numbers.new.created ≤ 1024 }
+    ensures released_room { vec_capacity numbers.new.released ≤ 1024 }
 {
     let places = shadows.place_count();
     let count = edges.edge_count();
-    match prepare_delta(alloc, shadows, edges, log, delta, logs) {
-        Ok(numbers) => {
-            count_delta(shadows, edges, delta, &numbers, counts);
+    match prepare_delta(numbers, shadows, edges, log, delta, logs) {
+        Ok(()) => {
+            count_delta(shadows, edges, delta, numbers, counts);
+            numbers.give_up_much();
             Ok(())
         }
         Err(_) => {
             cut_back(shadows, edges, places, count);
+            numbers.give_up_much();
             Err(NoMemory)
         }
     }

@@ -10,18 +10,11 @@ ghost use Rattle.shadow_rows.specs.Rows.{NamesRows};
 ghost use Rattle.shadow_rows.specs.Tabled.{AreCounts, AreNumbered, AreTabled, ExtendsEdges, ExtendsShadows, row_names};
 
 use crate::names::{name, name_after, name_counts, name_states, named_in_pair};
+use crate::row_numbers::RowNumbers;
 use crgc_ids::{ActorCount, ActorId, NoMemory, PairCount};
 use edge_table::EdgeTable;
 use history_model::StateRow;
 use shadow_table::ShadowTable;
-use std::alloc::Global;
-
-/// The numbers of the edges of a bulletin's rows, in the order of the rows.
-#[derive(Drop)]
-pub struct RowNumbers {
-    pub created: Vec<u32>,
-    pub released: Vec<u32>,
-}
 
 /// The target is named, and the edge to it from the owner, who is named and has this place, is there; this is its number. After
 /// `NoMemory` the target may be named. At most 2 * 8 looks at lists, and where that does not tell, logarithmic time; amortized.
@@ -52,16 +45,17 @@ fn add_pair(
     edges.add(owner, target, from, to)
 }
 
-/// The actors of the rows are named, and the edges between them are there; these are their numbers. After `NoMemory` some of them
-/// may be. For each row at most 2 * 8 looks at lists, and where that does not tell, time logarithmic in their number; amortized.
+/// The actors of the rows are named, and the edges between them are there; `numbers` has their numbers and nothing else. After
+/// `NoMemory` some of them may be there. For each row at most 2 * 8 looks at lists, and where that does not tell, time logarithmic
+/// in their number; amortized. Memory for numbers is taken only where there are more rows than room.
 pub fn add_pairs(
-    alloc: Global,
+    numbers: &mut Vec<u32>,
     shadows: &mut ShadowTable,
     edges: &mut EdgeTable,
     rows: &[PairCount],
-) -> Result<Vec<u32>, NoMemory>
+) -> Result<(), NoMemory>
     requires tabled { AreTabled shadows.old.names edges.old }
-    ensures ok { IfOk result (λ numbers. AreNumbered edges.new rows.now numbers.items) }
+    ensures ok { OnOk result (AreNumbered edges.new rows.now numbers.new.items) }
     ensures named { OnOk result (NamesRows shadows.old.names shadows.new.names (pair_names rows.now)) }
     ensures fits { OnOk result (AllByRecursion (λ r. r.count < 4294967296) rows.now) }
     ensures tabled { OnOk result (AreTabled shadows.new.names edges.new) }
@@ -69,7 +63,7 @@ pub fn add_pairs(
     ensures extends { ExtendsEdges edges.old edges.new }
     ensures places { edges.old.places ≤ edges.new.places }
 {
-    let mut numbers = Vec::new(alloc);
+    numbers.clear();
     if numbers.reserve(rows.len()).is_err() {
         return Err(NoMemory);
     }
@@ -81,7 +75,7 @@ pub fn add_pairs(
         let number = add_pair(shadows, edges, owner, target, from)?;
         numbers.push_reserved(number);
     }
-    Ok(numbers)
+    Ok(())
 }
 
 /// Only the first so many edges stay.
@@ -95,24 +89,24 @@ pub fn cut_back_edges(edges: &mut EdgeTable, count: u32)
     }
 }
 
-/// The actors that the rows name are named, in the order of the rows, and the pairs of the rows are there; the answer has the
+/// The actors that the rows name are named, in the order of the rows, and the pairs of the rows are there; `numbers` has the
 /// numbers of their edges. After `NoMemory` some of them may be there. Time in proportion to the number of rows, and
 /// logarithmic in the number of edges for each.
 pub fn grow(
-    alloc: Global,
+    numbers: &mut RowNumbers,
     shadows: &mut ShadowTable,
     edges: &mut EdgeTable,
     states: &[StateRow],
     sent: &[ActorCount],
     created: &[PairCount],
     released: &[PairCount],
-) -> Result<RowNumbers, NoMemory>
+) -> Result<(), NoMemory>
     requires tabled { AreTabled shadows.old.names edges.old }
     ensures named { OnOk result ((a : Actor) → is_named shadows.new.names a
         ≡ (is_named shadows.old.names a || list_any (same_actor a) (row_names states.now sent.now created.now released.now))) }
     ensures fits { OnOk result (AreCounts states.now sent.now created.now released.now) }
-    ensures created { IfOk result (λ numbers. AreNumbered edges.new created.now numbers.created.items) }
-    ensures released { IfOk result (λ numbers. AreNumbered edges.new released.now numbers.released.items) }
+    ensures created { OnOk result (AreNumbered edges.new created.now numbers.new.created.items) }
+    ensures released { OnOk result (AreNumbered edges.new released.now numbers.new.released.items) }
     ensures tabled { OnOk result (AreTabled shadows.new.names edges.new) }
     ensures shadows { ExtendsShadows shadows.old shadows.new }
     ensures edges { ExtendsEdges edges.old edges.new }
@@ -120,9 +114,9 @@ pub fn grow(
 {
     name_states(shadows, edges, states)?;
     name_counts(shadows, edges, sent)?;
-    let created = add_pairs(alloc, shadows, edges, created)?;
-    let released = add_pairs(alloc, shadows, edges, released)?;
-    Ok(RowNumbers { created, released })
+    add_pairs(&mut numbers.created, shadows, edges, created)?;
+    add_pairs(&mut numbers.released, shadows, edges, released)?;
+    Ok(())
 }
 
 /// Only the first so many places and edges stay.

@@ -1,5 +1,5 @@
 //! Windows and Finals whose rows the shadows, the edges and the log take in.
-ghost use Rattle.std.specs.Prelude.{◌≡◌, ◌≤◌, if◌then◌else◌, true, false, Bool, Option, IfOk, OnErr, OnOk};
+ghost use Rattle.std.specs.Prelude.{◌≡◌, ◌≤◌, if◌then◌else◌, true, false, Bool, Option, OnErr, OnOk, vec_capacity};
 ghost use Rattle.std.specs.List.{AllByRecursion};
 ghost use Rattle.crgc_ids.specs.Actor.{Actor};
 ghost use Rattle.history_model.specs.declared.records.Bulletin.TheVariants as bulletins;
@@ -14,29 +14,29 @@ ghost use Rattle.shadow_rows.specs.Tabled.{AreNumbered, AreTabled, ExtendsEdges,
 ghost use Rattle.shadow_rows.specs.Touched.{NamesMore};
 
 use crate::count::count_admitted;
-use crate::grow::{RowNumbers, cut_back, grow};
+use crate::grow::{cut_back, grow};
+use crate::row_numbers::RowNumbers;
 use crgc_ids::NoMemory;
 use edge_table::EdgeTable;
 use history_model::Window;
 use shadow_table::ShadowTable;
-use std::alloc::Global;
 use undo_log::UndoLog;
 
-/// The actors and pairs of the window are there, and where it is noted the log has its messages and its carried pairs; the answer
+/// The actors and pairs of the window are there, and where it is noted the log has its messages and its carried pairs; `numbers`
 /// has the numbers of the pairs' edges. After `NoMemory` some of the actors and pairs may be there.
 fn prepare_window(
-    alloc: Global,
+    numbers: &mut RowNumbers,
     shadows: &mut ShadowTable,
     edges: &mut EdgeTable,
     log: &mut UndoLog,
     window: &Window,
     logs: bool,
-) -> Result<RowNumbers, NoMemory>
+) -> Result<(), NoMemory>
     requires tabled { AreTabled shadows.old.names edges.old }
     requires small { (owner : Option Actor) (target : Actor) → admitted_from log.old window.now.from owner target ≤ 4611686018427387904 }
     ensures named { OnOk result (NamesRows shadows.old.names shadows.new.names (ledger_names (window_ledger window.now))) }
     ensures fits { OnOk result (CountsFit (window_ledger window.now)) }
-    ensures carried { IfOk result (λ numbers. AreNumbered edges.new window.now.carried numbers.created.items) }
+    ensures carried { OnOk result (AreNumbered edges.new window.now.carried numbers.new.created.items) }
     ensures tabled { OnOk result (AreTabled shadows.new.names edges.new) }
     ensures noted { OnOk result (logs ≡ true → Notes log.old log.new window.now.from sides.Admitted window.now.messages window.now.carried) }
     ensures same_log { logs ≡ false → log.new ≡ log.old }
@@ -48,18 +48,19 @@ fn prepare_window(
 {
     let messages = window.messages.as_slice();
     let carried = window.carried.as_slice();
-    let numbers = grow(alloc, shadows, edges, &[], messages, carried, &[])?;
+    grow(numbers, shadows, edges, &[], messages, carried, &[])?;
     if logs {
         log.note_admitted(window.from, &window.messages, &window.carried)?;
     }
-    Ok(numbers)
+    Ok(())
 }
 
 /// The rows of the window are counted, and noted in the log where `logs` says so; its messages and carried pairs count where
 /// `counts` says so, which is where the node from which they were admitted is lost. After `NoMemory` all that is told of actors
-/// and pairs is as before. Amortized time in proportion to n log n for n rows, and logarithmic in the number of edges for each.
+/// and pairs is as before. `numbers` lends its room: what was in it is lost, and much room is given up. Amortized time in proportion
+/// to n log n for n rows, and logarithmic in the number of edges for each.
 pub fn add_window(
-    alloc: Global,
+    numbers: &mut RowNumbers,
     shadows: &mut ShadowTable,
     edges: &mut EdgeTable,
     log: &mut UndoLog,
@@ -85,16 +86,20 @@ pub fn add_window(
     ensures edges { OnErr result (edges.new.edges ≡ edges.old.edges) }
     ensures log { OnErr result (log.new ≡ log.old) }
     ensures ordered { IsInOrder (window_ledger window.now) }
+    ensures created_room { vec_capacity numbers.new.created ≤ 1024 }
+    ensures released_room { vec_capacity numbers.new.released ≤ 1024 }
 {
     let places = shadows.place_count();
     let count = edges.edge_count();
-    match prepare_window(alloc, shadows, edges, log, window, logs) {
-        Ok(numbers) => {
+    match prepare_window(numbers, shadows, edges, log, window, logs) {
+        Ok(()) => {
             count_window(shadows, edges, window, numbers.created.as_slice(), counts);
+            numbers.give_up_much();
             Ok(())
         }
         Err(_) => {
             cut_back(shadows, edges, places, count);
+            numbers.give_up_much();
             Err(NoMemory)
         }
     }
