@@ -1,5 +1,5 @@
 -- Each actor has its place, and each pair is listed at the places of both.
-use Rattle.std.proofs.Common.{◌≡◌, ◌<◌, ◌||◌, ◌-ℤ◌, ℕ, ℤ, SFits, of_z, pos, to_z, w64, zero, suc, Bool, true, false, cond, List, [], ◌∷◌, length, get_or, map, refl, sym, ◌∙◌, ap, subst, inl, inr, arith}
+use Rattle.std.proofs.Common.{◌≡◌, ◌<◌, ◌||◌, ℕ, ℤ, SFits, of_z, to_z, w64, zero, suc, Bool, true, false, cond, List, [], ◌∷◌, length, get_or, map, refl, sym, ◌∙◌, ap, subst, inl, inr, arith}
 use Rattle.std.proofs.lemmas.Bool.{eq-eqb, eqb-true, false_from_ne_true, false≢true}
 use Rattle.std.proofs.lemmas.Int.{to_z-of_z}
 use Rattle.std.proofs.lemmas.List.{get_or-map, length-map}

@@ -1,5 +1,5 @@
 -- What follows where readers see the same in two graphs, and when they do.
-use Rattle.std.proofs.Common.{◌≡◌, ◌<◌, ◌≤◌, ◌-ℤ◌, ◌&&◌, ◌||◌, ℕ, Bool, true, false, cond, count_by, int_lt, not, List, [], ◌∷◌, Some, get_or, length, map, pos, refl, sym, ◌∙◌, ap, arith, zero, suc}
+use Rattle.std.proofs.Common.{◌≡◌, ◌<◌, ◌≤◌, ◌&&◌, ◌||◌, ℕ, Bool, true, false, cond, count_by, int_lt, not, List, [], ◌∷◌, Some, get_or, length, map, pos, refl, sym, ◌∙◌, ap, arith, zero, suc}
 use Rattle.std.proofs.lemmas.Bool.{false≢true}
 use Rattle.std.proofs.lemmas.Bool.Decides.{same_from_decides}
 use Rattle.std.proofs.lemmas.List.{length-map}

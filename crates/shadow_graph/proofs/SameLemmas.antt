@@ -1,5 +1,5 @@
 -- Graphs in which readers see the same.
-use Rattle.std.proofs.Common.{◌≡◌, ◌<◌, ℕ, Bool, true, false, cond, length, not, pos, refl, sym, ◌∙◌, ap, subst, arith, ◌-ℤ◌, ◌&&◌}
+use Rattle.std.proofs.Common.{◌≡◌, ◌<◌, ℕ, Bool, true, false, cond, length, not, refl, sym, ◌∙◌, ap, subst, arith, ◌&&◌}
 use Rattle.std.specs.List.{position_or_len}
 use Rattle.crgc_ids.specs.Actor.{Actor}
 use Rattle.edge_table.specs.Table.{no_edge, same_pair}

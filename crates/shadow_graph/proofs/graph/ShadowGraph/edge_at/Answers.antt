@@ -1,10 +1,10 @@
-use Rattle.std.proofs.Common.{◌≡◌, ◌<◌, ◌∙◌, SFits, ap, get_or, length, rules, subst, sym, w64}
-use Rattle.edge_table.specs.Table.{edge_at, edges_from, ends_from}
+use Rattle.std.proofs.Common.{◌≡◌, ◌∙◌, SFits, ap, rules, subst, sym, w64}
+use Rattle.edge_table.specs.Table.{edges_from, ends_from}
 use Rattle.edge_table.specs.declared.table.Edge.{Edge}
 use Rattle.shadow_graph.proofs.PlacedLemmas.{between-value, end-at, from-at, inside-ends}
 use Rattle.shadow_graph.specs.Graph.{Graph}
 use Rattle.shadow_rows.specs.Pairs.{edge_between}
-use Rattle.shadow_graph.specs.Places.{actor_of, targets_of}
+use Rattle.shadow_graph.specs.Places.{actor_of}
 use Rattle.shadow_graph.proofs.graph.ShadowGraph.edge_at.Goals as goal
 
 -- the edge is one of those from the place

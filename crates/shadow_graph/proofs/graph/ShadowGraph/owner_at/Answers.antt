@@ -1,10 +1,10 @@
-use Rattle.std.proofs.Common.{◌≡◌, ◌<◌, ◌∙◌, SFits, ap, cond, get_or, length, rules, subst, sym, w64}
-use Rattle.edge_table.specs.Table.{edge_at, edges_to, ends_to, no_edge}
+use Rattle.std.proofs.Common.{◌≡◌, ◌∙◌, SFits, ap, cond, rules, subst, sym, w64}
+use Rattle.edge_table.specs.Table.{edges_to, ends_to, no_edge}
 use Rattle.edge_table.specs.declared.table.Edge.{Edge}
 use Rattle.shadow_graph.proofs.PlacedLemmas.{between-value, end-at, to-at, inside-ends}
 use Rattle.shadow_graph.specs.Graph.{Graph}
 use Rattle.shadow_rows.specs.Pairs.{edge_between}
-use Rattle.shadow_graph.specs.Places.{actor_of, owners_of}
+use Rattle.shadow_graph.specs.Places.{actor_of}
 use Rattle.shadow_graph.specs.Seen.{is_dropped}
 use Rattle.shadow_graph.proofs.graph.ShadowGraph.owner_at.Goals as goal
 
