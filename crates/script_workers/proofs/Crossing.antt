@@ -13,6 +13,7 @@ use Rattle.link_table.specs.contracts.table.LinkTable as LinkTable
 use Rattle.mailboxes.specs.contracts.mailboxes.Mailboxes as Mailboxes
 use Rattle.traffic.specs.contracts.traffic.Traffic as Traffic
 use Rattle.refob_counts.specs.contracts.RefCounts as RefCounts
+use Rattle.entry_records.specs.contracts.actor_log.ActorLog as ActorLog
 use Rattle.roster.specs.contracts.table.Roster as Roster
 use Rattle.bulletin_streams.specs.contracts.streams.BulletinStreams as Streams
 use Rattle.true_config.specs.contracts.world.World as World
@@ -43,8 +44,11 @@ traffic_send = search (crosses, maps, sets, frees, sendable, links_send, mail_se
 counts_send : IsSend RefCounts.the_row
 counts_send = search (crosses, maps, sets, frees, sendable) depth 60 fits 100000
 
+log_send : IsSend ActorLog.the_row
+log_send = search (crosses, sendable) depth 60 fits 100000
+
 roster_send : IsSend Roster.the_row
-roster_send = search (crosses, maps, sets, frees, sendable, counts_send) depth 60 fits 100000
+roster_send = search (crosses, maps, sets, frees, sendable, counts_send, log_send) depth 60 fits 100000
 
 streams_send : IsSend Streams.the_row
 streams_send = search (crosses, sendable) depth 60 fits 100000
