@@ -25,7 +25,7 @@ const OTHER_CUT: &str =
 
 fn played(alloc: Global, text: &str, brief: bool) -> Result<Vec<u8>, Fail> {
     let journal = Vec::from_slice(alloc, text.as_bytes())?;
-    Ok(play(alloc, journal, brief).ok().ok_or("a report")?)
+    Ok(play(alloc, journal, brief).ok().ok_or("a report")?.report)
 }
 
 #[test]

@@ -71,7 +71,7 @@ const LOST_BETWEEN_NODES_REPORT: &str =
 
 fn report_of(alloc: Global, text: &str, brief: bool) -> Result<Vec<u8>, Fail> {
     let script = read_script(alloc, text.as_bytes()).ok().ok_or("a script")?;
-    Ok(run(alloc, script, brief).ok().ok_or("a report")?)
+    Ok(run(alloc, script, brief).ok().ok_or("a report")?.report)
 }
 
 #[test]

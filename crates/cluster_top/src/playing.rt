@@ -8,8 +8,9 @@ ghost use Rattle.journal_model.specs.Journals.{journal_of};
 use crate::input::input;
 use crate::refusal::Refusal;
 use crgc_io::Source;
-use journal_player::play;
+use journal_player::{Played, play};
 use std::alloc::Global;
+use std::mem;
 
 /// The report of the journal that the source gives, in brief or in full, or why there is none.
 pub fn played<S: Source>(alloc: Global, source: &mut S, brief: bool) -> Result<Vec<u8>, Refusal>
@@ -23,13 +24,16 @@ pub fn played<S: Source>(alloc: Global, source: &mut S, brief: bool) -> Result<V
     }
 }
 
-/// The report of the journal, in brief or in full, or why there is none.
+/// The report of the journal, in brief or in full, or why there is none. The cluster is forgotten.
 fn report(alloc: Global, journal: Vec<u8>, brief: bool) -> Result<Vec<u8>, Refusal>
     ensures report { IfOk result (λ v. IsJournalReport journal.items brief v.items) }
     ensures refusal { IfErr result (λ r. IsToldBy r (journal_of journal.items)) }
 {
     match play(alloc, journal, brief) {
-        Ok(report) => Ok(report),
+        Ok(Played { report, cluster }) => {
+            mem::forget(cluster);
+            Ok(report)
+        }
         Err(fault) => Err(Refusal::of(alloc, fault)),
     }
 }

@@ -15,9 +15,10 @@ use run_model::round_laws::{
     each_sweep_of_a_round_is_at_a_quiet_point,
 };
 use run_model::run_laws::{the_beginning_is_legal, the_fixed_schedule_is_legal};
-use script_player::{RunFault, run};
+use script_player::{Ran, RunFault, run};
 use script_reader::{Script, ScriptRead, read_script};
 use std::alloc::Global;
+use std::mem;
 
 /// The report of the script that the source gives, run by the fixed schedule, in brief or in full, or why there is none.
 pub fn ran<S: Source>(alloc: Global, source: &mut S, brief: bool) -> Result<Vec<u8>, Refusal>
@@ -49,14 +50,17 @@ fn report(alloc: Global, bytes: &[u8], brief: bool) -> Result<Vec<u8>, Refusal>
     }
 }
 
-/// The report of the script, or why there is none.
+/// The report of the script, or why there is none. The cluster is forgotten.
 fn finished(alloc: Global, script: Script, brief: bool) -> Result<Vec<u8>, Refusal>
     requires script { IsScript script }
     ensures report { IfOk result (λ v. ReportsFixed script brief v.items) }
     ensures refusal { IfErr result (λ r. IsRunRefusal script r) }
 {
     match run(alloc, script, brief) {
-        Ok(report) => Ok(report),
+        Ok(Ran { report, cluster }) => {
+            mem::forget(cluster);
+            Ok(report)
+        }
         Err(RunFault::Limit(which)) => Err(Refusal::Limit(which)),
         Err(RunFault::NoMemory) => Err(Refusal::NoMemory),
     }

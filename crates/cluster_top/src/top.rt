@@ -23,7 +23,8 @@ use std::time::Clock;
 
 /// All that the program does: it reads the words and the source, does what they ask, and writes to the sink. Where the words ask
 /// for worker threads, these run the script, the gate is told of each turn as it begins, and the history that was reached is
-/// kept; the call may wait then. Else it does what `plain_top` does, the gate is not called, and `kept` stays as it is.
+/// kept; the call may wait then. Else it does what `plain_top` does, the gate is not called, and `kept` stays as it is. What a cluster
+/// took without worker threads is not given back: a program ends with this call.
 pub fn crgc_top<S: Source, K: Sink, G: Gate + Sync, R: Threads + Wait + Clock + Sync>(
     rt: &R,
     alloc: Global,
@@ -66,7 +67,7 @@ fn working_top<S: Source, K: Sink, G: Gate + Sync, R: Threads + Wait + Clock + S
     write_answer(sink, answer)
 }
 
-/// What `crgc_top` does where it needs no threads. It returns on every input.
+/// What `crgc_top` does where it needs no threads. It returns on every input, and what the cluster took is not given back.
 pub fn plain_top<S: Source, K: Sink>(
     alloc: Global,
     words: &[String],

@@ -26,17 +26,26 @@ const NO_HEADER: PlayFault = PlayFault::Journal {
 /// A text that is no longer than this is followed in one part, with nothing given up on the way.
 const LEAST_PART: usize = 65_536;
 
+/// A report, and the cluster of its history, of which nothing more is asked. Who gives the cluster back does so allocation by
+/// allocation, in time in proportion to its actors and bulletins; a program that ends with the report may forget it.
+#[derive(Drop)]
+pub struct Played {
+    pub report: Vec<u8>,
+    pub cluster: Player,
+}
+
 /// The report of the history that the journal tells, in brief or in full, or why it tells none: its first faulty line with what
 /// is wrong there, or the limit that it passes. The text is given up part by part as it is followed, and is gone before the report
 /// is made. Linear in the text, beyond what the world and the collectors take for its events.
-pub fn play(alloc: Global, text: Vec<u8>, brief: bool) -> Result<Vec<u8>, PlayFault>
-    ensures report { IfOk result (λ bytes. (s : Story) × (journal_of text.items ≡ Ok s) × IsLegal s.cluster s.past
-        × IsWithinLimits s.cluster s.past × IsRightlyCollected s.cluster s.past × (bytes.items ≡ report_text s.cluster s.past brief)) }
+pub fn play(alloc: Global, text: Vec<u8>, brief: bool) -> Result<Played, PlayFault>
+    ensures report { IfOk result (λ played. (s : Story) × (journal_of text.items ≡ Ok s) × IsLegal s.cluster s.past
+        × IsWithinLimits s.cluster s.past × IsRightlyCollected s.cluster s.past × (played.report.items ≡ report_text s.cluster s.past brief)) }
     ensures fault { IfErr result (λ f. IsPlayFault f (journal_of text.items)) }
 {
     a_legal_history_is_rightly_collected();
-    let mut player = followed(alloc, text)?;
-    Ok(player.report(alloc, brief)?)
+    let mut cluster = followed(alloc, text)?;
+    let report = cluster.report(alloc, brief)?;
+    Ok(Played { report, cluster })
 }
 
 /// The player after all lines of the journal, or why it tells no history.

@@ -9,4 +9,5 @@ mod lines;
 mod player;
 
 pub use fault::{Cause, PlayFault};
-pub use journal::play;
+pub use journal::{Played, play};
+pub use player::Player;

@@ -38,7 +38,7 @@ impl Model for Player {
 
 impl Player {
     /// Before the first event.
-    pub fn begin(alloc: Global, nodes: u8, version: u8) -> Result<Player, NoMemory>
+    pub(crate) fn begin(alloc: Global, nodes: u8, version: u8) -> Result<Player, NoMemory>
         requires some_node { 1 ≤ nodes }
         requires nodes { nodes ≤ 16 }
         requires some_version { 1 ≤ version }
@@ -56,7 +56,7 @@ impl Player {
 
     /// The next line is followed, or the answer is its fault; then all is as before. An event in the time that the world and the
     /// collectors take for it, any other line in linear time, and an end line in constant time.
-    pub fn follow(&mut self, alloc: Global, line: &[u8]) -> Result<(), Halt>
+    pub(crate) fn follow(&mut self, alloc: Global, line: &[u8]) -> Result<(), Halt>
         ensures cluster { self.new.cluster ≡ self.old.cluster }
         ensures ok { OnOk result (after_line self.old.cluster self.old.replay line.now ≡ Ok self.new.replay) }
         ensures halt { IfErr result (λ h. IsHalt h (after_line self.old.cluster self.old.replay line.now)) }
@@ -134,7 +134,7 @@ impl Player {
     }
 
     /// The report, in brief or in full, after which no hand or sweep can follow. Linear in the events, the verdicts and the text.
-    pub fn report(&mut self, alloc: Global, brief: bool) -> Result<Vec<u8>, NoMemory>
+    pub(crate) fn report(&mut self, alloc: Global, brief: bool) -> Result<Vec<u8>, NoMemory>
         ensures text { IfOk result (λ text. text.items ≡ report_text self.old.cluster self.old.replay.past brief) }
         ensures legal { IsLegal self.old.cluster self.old.replay.past }
         ensures within { IsWithinLimits self.old.cluster self.old.replay.past }

@@ -38,7 +38,7 @@ fn read_and_run(alloc: Global, script: &str) -> io::Result<Option<Vec<u8>>> {
         Err(_) => return Err(io::ErrorKind::InvalidData.into()),
     };
     match run(alloc, script, false) {
-        Ok(report) => Ok(Some(report)),
+        Ok(ran) => Ok(Some(ran.report)),
         Err(RunFault::NoMemory) => Ok(None),
         Err(_) => Err(io::ErrorKind::InvalidData.into()),
     }

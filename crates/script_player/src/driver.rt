@@ -23,7 +23,7 @@ use std::snapshot::Snapshot;
 /// A run of a script by the fixed schedule: the course of its cluster, its actors between their turns, how much of its plan is used,
 /// and what is left of the script beside.
 #[derive(Drop)]
-pub(crate) struct Driver {
+pub struct Driver {
     pub(crate) course: Course,
     pub(crate) actors: ScriptActors,
     pub(crate) progress: Progress,

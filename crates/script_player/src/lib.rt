@@ -12,5 +12,6 @@ mod stepping;
 mod turning;
 mod waking;
 
+pub use driver::Driver;
 pub use fault::RunFault;
-pub use player::run;
+pub use player::{Ran, run};

@@ -21,7 +21,7 @@ pub fn report_of(alloc: Global, seed: u64, size: u32) -> io::Result<Vec<u8>>
 {
     let script = script_of(alloc, seed, size)?;
     match run(alloc, script, false) {
-        Ok(report) => Ok(report),
+        Ok(ran) => Ok(ran.report),
         Err(RunFault::NoMemory) => Err(io::ErrorKind::OutOfMemory.into()),
         Err(RunFault::Limit(_)) => Err(io::ErrorKind::InvalidData.into()),
     }
