@@ -39,13 +39,13 @@ impl BoundNames {
         ensures { result ≡ bound name.now (names_of self.now) }
     {
         match name {
-            Name::Own => self.find_local(b"self"),
+            Name::Own => self.find_local(&LocalName::own()),
             Name::Message(k) => self.find_message(*k as usize),
-            Name::Local(name) => self.find_local(name.as_slice()),
+            Name::Local(name) => self.find_local(name),
         }
     }
 
-    pub(crate) fn find_local(&self, name: &[u8]) -> Option<ActorId>
+    pub(crate) fn find_local(&self, name: &LocalName) -> Option<ActorId>
         ensures { result ≡ bound (Local name.now) (names_of self.now) }
     {
         self.locals.find(name)
@@ -72,13 +72,13 @@ impl BoundNames {
         ensures { names_of self.new ≡ without name.now (names_of self.old) }
     {
         match name {
-            Name::Own => self.unbind_local(b"self"),
+            Name::Own => self.unbind_local(&LocalName::own()),
             Name::Message(k) => self.unbind_message(*k as usize),
-            Name::Local(name) => self.unbind_local(name.as_slice()),
+            Name::Local(name) => self.unbind_local(name),
         }
     }
 
-    pub(crate) fn unbind_local(&mut self, name: &[u8])
+    pub(crate) fn unbind_local(&mut self, name: &LocalName)
         ensures { names_of self.new ≡ without (Local name.now) (names_of self.old) }
     {
         self.locals.unbind(name);
@@ -117,7 +117,7 @@ impl BoundNames {
     }
 
     /// What `keep` did is undone.
-    pub(crate) fn give_back(&mut self, name: &[u8], k: usize)
+    pub(crate) fn give_back(&mut self, name: &LocalName, k: usize)
         ensures { (before : Held) (a : Actor) → IsKept name.now k a before self.old → WasFree name.now k before → self.new ≡ before }
     {
         self.locals.unbind(name);

@@ -1,6 +1,9 @@
 //! Local names, which stand in place.
 ghost use Rattle.std.specs.Prelude.{◌≡◌, ◌↔◌, ◌≤◌, IfSome, IsSome, codes, length};
+ghost use Rattle.std.specs.Cmp.Lexicographic.{slice_cmp};
+ghost use Rattle.std.specs.Ordering.{nat_cmp};
 
+use std::cmp::Ordering;
 use std::marker::Model;
 
 /// A text of at most 16 bytes that stands in the value itself, so that a copy takes no memory. Contracts see its bytes.
@@ -59,4 +62,20 @@ impl LocalName {
     {
         &self.bytes[..self.len as usize]
     }
+
+    /// How its text stands to that of the other, byte by byte. Constant time.
+    pub(crate) fn order(&self, other: &LocalName) -> Ordering
+        ensures { result ≡ slice_cmp nat_cmp self.now other.now }
+    {
+        // Texts that differ by zeros at the end alone are the same bytes in place, and of two such the shorter is less.
+        number_order(&self.bytes, &other.bytes).then(self.len.cmp(&other.len))
+    }
+}
+
+// How the bytes stand to the others: the first that differs decides, and so it does of two numbers whose highest byte is the
+// first. So one comparison takes the place of sixteen.
+fn number_order(bytes: &[u8; 16], others: &[u8; 16]) -> Ordering
+    ensures { result ≡ slice_cmp nat_cmp bytes.now others.now }
+{
+    u128::from_be_bytes(*bytes).cmp(&u128::from_be_bytes(*others))
 }

@@ -52,7 +52,7 @@ impl Locals {
         ensures ok { OnOk result (local_names self.new ≡ bind name actor (local_names self.old)) }
         ensures err { OnErr result (self.new ≡ self.old) }
     {
-        let at = self.gap(name.as_slice());
+        let at = self.gap(&name);
         match self.rows.insert(at, (name, actor)) {
             Ok(()) => Ok(()),
             Err(_) => Err(NoMemory),
@@ -93,7 +93,7 @@ impl Locals {
     }
 
     /// The actor to which the name is bound. Logarithmic time in the number of names.
-    pub(crate) fn find(&self, name: &[u8]) -> Option<ActorId>
+    pub(crate) fn find(&self, name: &LocalName) -> Option<ActorId>
         ensures { result ≡ bound (Local name.now) (local_names self.now) }
     {
         match self.search(name) {
@@ -103,7 +103,7 @@ impl Locals {
     }
 
     /// The name is not bound any more. Logarithmic time in the number of names, and each name above is moved by one place.
-    pub(crate) fn unbind(&mut self, name: &[u8])
+    pub(crate) fn unbind(&mut self, name: &LocalName)
         ensures { local_names self.new ≡ without (Local name.now) (local_names self.old) }
     {
         if let Ok(at) = self.search(name) {
@@ -112,7 +112,7 @@ impl Locals {
     }
 
     // Where the name, which is not there, would go.
-    fn gap(&self, name: &[u8]) -> usize
+    fn gap(&self, name: &LocalName) -> usize
         requires { bound (Local name.now) (local_names self.now) ≡ None }
         ensures { IsGapFor name.now self.now result }
     {
@@ -123,7 +123,7 @@ impl Locals {
     }
 
     // Where the name is, or where it would go.
-    fn search(&self, name: &[u8]) -> Result<usize, usize>
+    fn search(&self, name: &LocalName) -> Result<usize, usize>
         ensures found { IfOk result (IsRowOf name.now self.now) }
         ensures absent { IfErr result (IsGapFor name.now self.now) }
         ensures rising { IsRising IsRowBelow self.now }
@@ -133,8 +133,8 @@ impl Locals {
 }
 
 /// How the name of a row stands to another.
-fn row_cmp(row: &(LocalName, ActorId), name: &[u8]) -> Ordering
+fn row_cmp(row: &(LocalName, ActorId), name: &LocalName) -> Ordering
     ensures { result ≡ row_cmp row.now name.now }
 {
-    row.0.as_slice().cmp(name)
+    row.0.order(name)
 }

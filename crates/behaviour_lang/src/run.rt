@@ -67,7 +67,7 @@ impl Run {
     {
         self.position -= 1;
         if let Instr::Keep { name, message } = instr {
-            self.names.give_back(name.as_slice(), *message as usize);
+            self.names.give_back(name, *message as usize);
         }
     }
 
@@ -107,9 +107,9 @@ impl Run {
         requires room { self.old.position + 1 < 2 ^ 64 }
         ensures { Does (Spawns name.now behaviour) result self.old self.new }
     {
-        match self.names.find_local(name.as_slice()) {
+        match self.names.find_local(name) {
             Some(target) => {
-                self.names.unbind_local(name.as_slice());
+                self.names.unbind_local(name);
                 Tried::Step(Step::Act(Act::Drop { target }))
             }
             None => {
@@ -166,16 +166,13 @@ impl Run {
         ensures ok { IfOk result (λ tried. Does (Keeps name.now k) tried self.old self.new) }
         ensures err { OnErr result (self.new ≡ self.old) }
     {
-        match (
-            self.names.find_message(k),
-            self.names.find_local(name.as_slice()),
-        ) {
+        match (self.names.find_message(k), self.names.find_local(name)) {
             (None, _) => {
                 self.position += 1;
                 Ok(Tried::Passed)
             }
             (Some(_), Some(target)) => {
-                self.names.unbind_local(name.as_slice());
+                self.names.unbind_local(name);
                 Ok(Tried::Step(Step::Act(Act::Drop { target })))
             }
             (Some(actor), None) => {

@@ -6,7 +6,7 @@ use Rattle.behaviour_lang.proofs.locals.Locals.bind.Goals as goal
 
 -- the place, seen among the rows
 gap_here : (c : goal.Joined-insert) → IsGapFor c.args.name c.self.inside.rows.items c.gap-at.result
-gap_here c = rw (← c.as_slice.ensures, c.self.view_is) c.gap-at.ensures
+gap_here c = rw c.self.view_is c.gap-at.ensures
 
 pub invariant_of-self : goal.invariant_of-self
 invariant_of-self c = elim c.match-insert.branch [

@@ -9,5 +9,5 @@ use Rattle.behaviour_lang.proofs.run.Run.spawn.Goals as goal
 pub returns-in-None : goal.returns-in-None
 returns-in-None c = λ instrs e.
     let names = names_of c.args.self.now.names in
-    let unbound : bound (Local c.args.name.now) names ≡ None = rw c.as_slice.ensures at (sym c.find_local.ensures ∙ c.in-None.is) in
+    let unbound : bound (Local c.args.name.now) names ≡ None = sym c.find_local.ensures ∙ c.in-None.is in
     rw (e, unbound, without_unbound _ names unbound) refl
