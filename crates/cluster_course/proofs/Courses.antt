@@ -1,6 +1,7 @@
 -- What is kept beside a history stays so with the next event.
-use Rattle.std.proofs.Common.{◌≡◌, ◌+◌, ℕ, true, false, List, [], ◌∷◌, ◌++◌, length, drop, reverse, Option, Some, None, Result, Ok, Err, refl, sym, ◌∙◌, ap, subst}
+use Rattle.std.proofs.Common.{◌≡◌, ◌+◌, ℕ, Bool, ◌||◌, true, false, List, [], ◌∷◌, ◌++◌, length, drop, reverse, Option, Some, None, Result, Ok, Err, refl, sym, ◌∙◌, ap, subst}
 use Rattle.std.specs.Prelude.{IfSome}
+use Rattle.std.specs.Result.{is_err}
 use Rattle.std.proofs.lemmas.List.{reverse-append}
 use Rattle.collector.specs.Collected.{Collected}
 use Rattle.evidence_report.specs.Stops.{stops_in}
@@ -21,61 +22,77 @@ use Rattle.true_config.specs.Applying.{OnDone, UnlessDone}
 use Rattle.true_config.specs.declared.applied.Applied.{Applied}
 use Rattle.true_config.specs.declared.applied.Applied.TheVariants.{Done, Illegal, Limit}
 use Rattle.true_config.specs.Steps.{Adds, MayFollow}
-use Rattle.cluster_course.specs.Course.{IsCourse}
+use Rattle.cluster_course.specs.Course.{IsCourse, IsLastFirst, outcome_of}
 use Rattle.cluster_course.proofs.Outcomes.{Answers, may-follow}
 use Rattle.cluster_course.proofs.Stops.{stops-more}
 
 story-is : (s t : Story) → s.cluster ≡ t.cluster → s.past ≡ t.past → s ≡ t
 story-is s t cluster past = λ i. record { cluster = cluster i; past = past i }
 
+-- all verdicts have the last one first
+last-of_all : (cl : Cluster) (h : List Event) (rs : List Verdict) → AreVerdicts cl h rs → IsLastFirst cl h rs
+last-of_all cl [] rs are = tt
+last-of_all cl (Sweep m ∷ p) [] are = are
+last-of_all cl (Sweep m ∷ p) (v ∷ rs) are = are.0
+last-of_all cl (_ ∷ p) rs are = tt
+
 -- at the start
-pub course-begun : (s : Story) (cs : List Collected) (vs : List Verdict) (nodes : ℕ) → s.past ≡ [] → s.cluster.nodes ≡ nodes → ((cl : Cluster) → cl.nodes ≡ nodes → AreCollectorsAt cl [] cs) → vs ≡ [] → IsCourse s (Some cs) vs 0
-course-begun s cs vs nodes past count new none = record {
+pub course-begun : (s : Story) (cs : List Collected) (all : Bool) (vs : List Verdict) (nodes : ℕ) → s.past ≡ [] → s.cluster.nodes ≡ nodes → ((cl : Cluster) → cl.nodes ≡ nodes → AreCollectorsAt cl [] cs) → vs ≡ [] → IsCourse s (Some cs) all vs 0
+course-begun s cs all vs nodes past count new none = record {
   within = subst (IsWithinLimits s.cluster) (sym past) tt;
   collectors = subst (λ h. AreCollectorsAt s.cluster h cs) (sym past) (new s.cluster count);
-  verdicts = subst (λ h. AreVerdicts s.cluster h (reverse vs)) (sym past) (subst (λ (xs : List Verdict). AreVerdicts s.cluster [] (reverse xs)) (sym none) tt);
+  last = subst (λ h. IsLastFirst s.cluster h (reverse vs)) (sym past) tt;
+  verdicts = λ _. subst (λ h. AreVerdicts s.cluster h (reverse vs)) (sym past) (subst (λ (xs : List Verdict). AreVerdicts s.cluster [] (reverse xs)) (sym none) tt);
   stopped = sym (ap (λ h. stopped_total s.cluster h) past);
 }
 
 -- of a history that others made
-pub course-made : (s : Story) (cs : List Collected) (vs : List Verdict) (n : ℕ) → IsWithinLimits s.cluster s.past → AreCollectorsAt s.cluster s.past cs → AreVerdicts s.cluster s.past (reverse vs) → n ≡ stops_in vs → IsCourse s (Some cs) vs n
+pub course-made : (s : Story) (cs : List Collected) (vs : List Verdict) (n : ℕ) → IsWithinLimits s.cluster s.past → AreCollectorsAt s.cluster s.past cs → AreVerdicts s.cluster s.past (reverse vs) → n ≡ stops_in vs → IsCourse s (Some cs) true vs n
 course-made s cs vs n within stand are count = record {
   within = within;
   collectors = stand;
-  verdicts = are;
+  last = last-of_all s.cluster s.past (reverse vs) are;
+  verdicts = λ _. are;
   stopped = count ∙ total-stopped s.cluster s.past vs are;
 }
 
 -- the history may as well be written as another that is equal
-pub course-same : (s t : Story) (cs : Option (List Collected)) (vs : List Verdict) (n : ℕ) → s ≡ t → IsCourse s cs vs n → IsCourse t cs vs n
-course-same s t cs vs n same before = subst (λ (x : Story). IsCourse x cs vs n) same before
+pub course-same : (s t : Story) (cs : Option (List Collected)) (all : Bool) (vs vs' : List Verdict) (n : ℕ) → s ≡ t → vs' ≡ vs → IsCourse s cs all vs n → IsCourse t cs all vs' n
+course-same s t cs all vs vs' n same items before =
+    subst (λ (xs : List Verdict). IsCourse t cs all xs n) (sym items) (subst (λ (x : Story). IsCourse x cs all vs n) same before)
 
 -- without the collectors
-pub course-given_up : (s t : Story) (cs : Option (List Collected)) (vs vs' : List Verdict) (n : ℕ) → t ≡ s → vs' ≡ vs → IsCourse s cs vs n → IsCourse t None vs' n
-course-given_up s t cs vs vs' n same items before =
-    let kept : IsCourse s None vs n = record { within = before.within; collectors = tt; verdicts = before.verdicts; stopped = before.stopped } in
-    subst (λ (xs : List Verdict). IsCourse t None xs n) (sym items) (subst (λ (x : Story). IsCourse x None vs n) (sym same) kept)
+pub course-given_up : (s t : Story) (cs : Option (List Collected)) (all : Bool) (vs vs' : List Verdict) (n : ℕ) → t ≡ s → vs' ≡ vs → IsCourse s cs all vs n → IsCourse t None all vs' n
+course-given_up s t cs all vs vs' n same items before =
+    let kept : IsCourse s None all vs n = record { within = before.within; collectors = tt; last = before.last; verdicts = before.verdicts; stopped = before.stopped } in
+    course-same s t None all vs vs' n (sym same) items kept
 
 verdicts-other : (cl : Cluster) (p : List Event) (e : Event) (vs : List Verdict) → ((m : ℕ) → e ≡ Sweep m → ⊥) → AreVerdicts cl p vs → AreVerdicts cl (e ∷ p) vs
 verdicts-other cl p (Sweep m) vs other are = absurd (other m refl)
 verdicts-other cl p _ vs other are = are
+
+last-other : (cl : Cluster) (p : List Event) (e : Event) (rs : List Verdict) → ((m : ℕ) → e ≡ Sweep m → ⊥) → IsLastFirst cl (e ∷ p) rs
+last-other cl p (Sweep m) rs other = absurd (other m refl)
+last-other cl p _ rs other = tt
 
 total-other : (cl : Cluster) (p : List Event) (e : Event) → ((m : ℕ) → e ≡ Sweep m → ⊥) → stopped_total cl (e ∷ p) ≡ stopped_total cl p
 total-other cl p (Sweep m) other = absurd (other m refl)
 total-other cl p _ other = refl
 
 -- the next event, where it is no sweep
-pub course-other : (s s' : Story) (cs cs' : Option (List Collected)) (vs : List Verdict) (n : ℕ) (e : Event) → IsCourse s cs vs n → MayFollow e s → Adds e s s' → ((m : ℕ) → e ≡ Sweep m → ⊥) → IfSome cs' (AreCollectorsAt s'.cluster s'.past) → IsCourse s' cs' vs n
-course-other s s' cs cs' vs n e before may adds other stand =
+pub course-other : (s s' : Story) (cs cs' : Option (List Collected)) (all : Bool) (vs vs' : List Verdict) (n : ℕ) (e : Event) → IsCourse s cs all vs n → MayFollow e s → Adds e s s' → ((m : ℕ) → e ≡ Sweep m → ⊥) → (all ≡ true → vs' ≡ vs)
+    → IfSome cs' (AreCollectorsAt s'.cluster s'.past) → IsCourse s' cs' all vs' n
+course-other s s' cs cs' all vs vs' n e before may adds other items stand =
     let t : Story = record { cluster = s.cluster; past = e ∷ s.past } in
     let same = story-is t s' (sym adds.cluster) (sym adds.past) in
-    let kept : IsCourse t cs' vs n = record {
+    let kept : IsCourse t cs' all vs' n = record {
       within = (may.limit, before.within);
       collectors = subst (λ (x : Story). IfSome cs' (AreCollectorsAt x.cluster x.past)) (sym same) stand;
-      verdicts = verdicts-other s.cluster s.past e (reverse vs) other before.verdicts;
+      last = last-other s.cluster s.past e (reverse vs') other;
+      verdicts = λ is. subst (λ (xs : List Verdict). AreVerdicts s.cluster (e ∷ s.past) (reverse xs)) (sym (items is)) (verdicts-other s.cluster s.past e (reverse vs) other (before.verdicts is));
       stopped = before.stopped ∙ sym (total-other s.cluster s.past e other);
     } in
-    subst (λ (x : Story). IsCourse x cs' vs n) same kept
+    subst (λ (x : Story). IsCourse x cs' all vs' n) same kept
 
 no_sweep : (e : Event) → is_of_collector e ≡ false → (m : ℕ) → e ≡ Sweep m → ⊥
 no_sweep e other m is = (let both : true ≡ false = sym (ap is_of_collector is) ∙ other in absurd (cc))
@@ -85,19 +102,13 @@ stands-on cl h None e other stand = tt
 stands-on cl h (Some cs) e other stand = changes-none cl h e cs other stand
 
 -- the next event, where it is neither a hand nor a sweep
-pub course-plain : (s s' : Story) (cs : Option (List Collected)) (vs : List Verdict) (n : ℕ) (e : Event) → IsCourse s cs vs n → MayFollow e s → Adds e s s' → is_of_collector e ≡ false → IsCourse s' cs vs n
-course-plain s s' cs vs n e before may adds other =
+pub course-plain : (s s' : Story) (cs : Option (List Collected)) (all : Bool) (vs vs' : List Verdict) (n : ℕ) (e : Event) → IsCourse s cs all vs n → MayFollow e s → Adds e s s' → is_of_collector e ≡ false → (all ≡ true → vs' ≡ vs)
+    → IsCourse s' cs all vs' n
+course-plain s s' cs all vs vs' n e before may adds other items =
     let t : Story = record { cluster = s.cluster; past = e ∷ s.past } in
     let same = story-is t s' (sym adds.cluster) (sym adds.past) in
-    course-other s s' cs cs vs n e before may adds (no_sweep e other)
+    course-other s s' cs cs all vs vs' n e before may adds (no_sweep e other) items
     (subst (λ (x : Story). IfSome cs (AreCollectorsAt x.cluster x.past)) same (stands-on s.cluster s.past cs e other before.collectors))
-
--- what comes of an event that is neither a hand nor a sweep
-pub course-after : (e : Event) (s s' : Story) (cs : Option (List Collected)) (vs : List Verdict) (n : ℕ) (r : Result Applied NoMemory) → IsCourse s cs vs n → Answers e s r → OnDone r (Adds e s s') → UnlessDone r (s' ≡ s) → is_of_collector e ≡ false → IsCourse s' cs vs n
-course-after e s s' cs vs n (Ok (Done told)) before answer done unless other = course-plain s s' cs vs n e before (may-follow e s (Ok (Done told)) told answer refl) done other
-course-after e s s' cs vs n (Ok (Illegal broken)) before answer done unless other = course-same s s' cs vs n (sym unless) before
-course-after e s s' cs vs n (Ok (Limit which)) before answer done unless other = course-same s s' cs vs n (sym unless) before
-course-after e s s' cs vs n (Err none) before answer done unless other = course-same s s' cs vs n (sym unless) before
 
 -- an event that is none of a collector
 pub of_none : (e : Event) → ((m o k : ℕ) → e ≡ Hand m o k → ⊥) → ((m : ℕ) → e ≡ Sweep m → ⊥) → is_of_collector e ≡ false
@@ -112,14 +123,17 @@ stood-before s s' cs e adds stand =
     subst (λ cl. IfSome cs (AreCollectorsAt cl (drop 1 s'.past))) (sym adds.cluster) (subst (λ p. IfSome cs (AreCollectorsAt s.cluster p)) before stand)
 
 -- the next event, where it is a sweep that finds the verdict
-pub course-swept : (s s' : Story) (cs cs' : Option (List Collected)) (vs vs' : List Verdict) (v : Verdict) (n n' m : ℕ) → IsCourse s cs vs n → MayFollow (Sweep m) s → Adds (Sweep m) s s' → IsVerdict s.cluster m s.past v → IfSome cs' (AreCollectorsAt s.cluster (Sweep m ∷ s.past)) → vs' ≡ vs ++ v ∷ [] → n' ≡ n + length v.stops → IsCourse s' cs' vs' n'
-course-swept s s' cs cs' vs vs' v n n' m before may adds is stand more count =
+pub course-swept : (s s' : Story) (cs cs' : Option (List Collected)) (all : Bool) (vs mid vs' : List Verdict) (v : Verdict) (n n' m : ℕ) → IsCourse s cs all vs n → MayFollow (Sweep m) s → Adds (Sweep m) s s' → IsVerdict s.cluster m s.past v
+    → IfSome cs' (AreCollectorsAt s.cluster (Sweep m ∷ s.past)) → (all ≡ true → mid ≡ vs) → vs' ≡ mid ++ v ∷ [] → n' ≡ n + length v.stops → IsCourse s' cs' all vs' n'
+course-swept s s' cs cs' all vs mid vs' v n n' m before may adds is stand items more count =
     let t : Story = record { cluster = s.cluster; past = Sweep m ∷ s.past } in
-    let order : reverse vs' ≡ v ∷ reverse vs = ap reverse more ∙ reverse-append vs (v ∷ []) in
-    let kept : IsCourse t cs' vs' n' = record {
+    let order : reverse vs' ≡ v ∷ reverse mid = ap reverse more ∙ reverse-append mid (v ∷ []) in
+    let kept : IsCourse t cs' all vs' n' = record {
       within = (may.limit, before.within);
       collectors = stand;
-      verdicts = subst (AreVerdicts s.cluster (Sweep m ∷ s.past)) (sym order) (is, before.verdicts);
+      last = subst (IsLastFirst s.cluster (Sweep m ∷ s.past)) (sym order) is;
+      verdicts = λ every. subst (AreVerdicts s.cluster (Sweep m ∷ s.past)) (sym order)
+          (is, subst (λ (xs : List Verdict). AreVerdicts s.cluster s.past (reverse xs)) (sym (items every)) (before.verdicts every));
       stopped = count ∙ ap (λ k. k + length v.stops) before.stopped ∙ stops-more s.cluster m s.past v is;
     } in
-    subst (λ (x : Story). IsCourse x cs' vs' n') (story-is t s' (sym adds.cluster) (sym adds.past)) kept
+    subst (λ (x : Story). IsCourse x cs' all vs' n') (story-is t s' (sym adds.cluster) (sym adds.past)) kept

@@ -3,3 +3,4 @@ pub mod Stops
 pub mod CollectedLemmas
 pub mod Courses
 pub mod LastVerdict
+pub mod TellingLemmas

@@ -2,3 +2,4 @@ pub mod Collected
 pub mod Halting
 pub mod Due
 pub mod Course
+pub mod Telling

@@ -1,55 +1,55 @@
-//! A history as it goes on.
-ghost use Rattle.std.specs.Prelude.{◌≡◌, ◌<◌, ◌≤◌, ◌∷◌, [], length, true, false, drop, reverse, slice_get, Some, IfOk, IfErr, IfSome, OnErr, OnOk, MatchOption};
-ghost use Rattle.history_model.specs.declared.events.Event.TheVariants as events;
+//! A history as it goes on, with its report.
+ghost use Rattle.std.specs.Prelude.{◌≡◌, ◌<◌, ◌≤◌, ◌++◌, [], length, take, true, reverse, IfOk, IfErr, IfSome, OnErr, OnOk, MatchOption};
 ghost use Rattle.history_model.specs.Legal.{IsLegal};
 ghost use Rattle.history_model.specs.State.{is_up};
-ghost use Rattle.history_model.specs.Sweeps.{IsVerdict};
-ghost use Rattle.journal_model.specs.Report.{stopped_total};
+ghost use Rattle.journal_model.specs.Lines.{event_line, line_of, text_of};
+ghost use Rattle.journal_model.specs.Report.{report_of, stopped_total};
 ghost use Rattle.journal_model.specs.Verdicts.{AreVerdicts, report_text};
 ghost use Rattle.run_model.specs.Schedule.{IsWithinLimits};
-ghost use Rattle.node_collectors.specs.Standing.{AreCollectorsAt, is_of_collector};
+ghost use Rattle.node_collectors.specs.Standing.{AreCollectorsAt};
 ghost use Rattle.node_collectors.specs.Wanted.{IsFirstUnhanded};
 ghost use Rattle.true_config.specs.Applying.{CarriesFew, told_of};
-ghost use Rattle.true_config.specs.Promises.{IsFoundBySweep};
 ghost use Rattle.true_config.specs.Steps.{Adds, MayFollow};
-ghost use Rattle.cluster_course.specs.Course.{outcome_of};
 ghost use Rattle.cluster_course.specs.Due.{lines_made_due, lines_of_verdict};
 ghost use Rattle.cluster_course.specs.Halting.{IsHalt};
+ghost use Rattle.cluster_course.specs.Telling.{IsTelling, ends_with_sweep};
 
+use crate::collected_world::CollectedWorld;
 use crate::halt::Halt;
+use crate::telling::{Telling, is_sweep};
 use crgc_ids::{NoMemory, NodeId};
-use evidence_report::{report, stopped_by_all};
+use evidence_report::{brief_report, full_report};
 use history_model::{Event, History, Verdict};
 use node_collectors::NodeCollectors;
 use std::alloc::Global;
 use std::marker::Model;
-use true_config::{Applied, Told, World};
+use true_config::{Told, World};
 
-/// A history as it goes on, with the collectors of its nodes and the verdicts of its sweeps. Contracts see the history. The
-/// collectors are given up where memory runs out in the midst of a hand or a sweep: then each later hand and sweep, and what is
-/// wanted, is answered by `NoMemory`.
+/// A history as it goes on, with the collectors of its nodes and the verdicts of its sweeps; and with the text of its report in full as
+/// far as it has come, where one was asked for. Contracts see the history. The collectors are given up where memory runs out in the
+/// midst of a hand or a sweep: then each later hand and sweep, and what is wanted, is answered by `NoMemory`.
 #[derive(Drop)]
 pub struct Course {
-    world: World,
-    collectors: Option<NodeCollectors>,
-    verdicts: Vec<Verdict>,
-    stopped: u64,
+    collected: CollectedWorld,
+    telling: Option<Telling>,
 }
 
 impl Model for Course {
+    ghost use Rattle.std.specs.Prelude.{IfSome};
     ghost use Rattle.history_model.specs.Story.{Story};
-    ghost use Rattle.cluster_course.specs.Course.{IsCourse};
+    ghost use Rattle.cluster_course.specs.Telling.{IsTelling};
 
     ghost Value = { Story };
 
-    ghost view = { λ c. c.world };
+    ghost view = { λ c. c.collected };
 
-    ghost invariant = { λ c. IsCourse c.world c.collectors c.verdicts.items c.stopped };
+    ghost invariant = { λ c. IfSome c.telling (λ t. IsTelling c.collected t.has_swept t.text.items) };
 }
 
 impl Course {
-    /// The empty history of a cluster.
-    pub fn begin(alloc: Global, nodes: u8, version: u8) -> Result<Course, NoMemory>
+    /// The empty history of a cluster, of which no record is kept, and no verdicts but the last. The text of its report in full goes on
+    /// with it, unless the report is to be in brief.
+    pub fn begin(alloc: Global, nodes: u8, version: u8, brief: bool) -> Result<Course, NoMemory>
         requires some_node { 1 ≤ nodes }
         requires nodes { nodes ≤ 16 }
         requires some_version { 1 ≤ version }
@@ -58,15 +58,34 @@ impl Course {
         ensures version { IfOk result (λ c. c.cluster.version ≡ version) }
         ensures past { IfOk result (λ c. c.past ≡ []) }
     {
+        let world = World::unrecorded(alloc, nodes, version)?;
+        let collected = CollectedWorld::begin(alloc, world, false)?;
+        let telling = if brief {
+            None
+        } else {
+            Some(Telling::begin(alloc, nodes, version)?)
+        };
+        Ok(Course { collected, telling })
+    }
+
+    /// The empty history of a cluster, of which a record is kept, and all verdicts.
+    pub fn begin_recorded(alloc: Global, nodes: u8, version: u8) -> Result<Course, NoMemory>
+        requires some_node { 1 ≤ nodes }
+        requires nodes { nodes ≤ 16 }
+        requires some_version { 1 ≤ version }
+        requires version { version ≤ 2 }
+        ensures nodes { IfOk result (λ c. c.cluster.nodes ≡ nodes) }
+        ensures version { IfOk result (λ c. c.cluster.version ≡ version) }
+        ensures past { IfOk result (λ c. c.past ≡ []) }
+    {
+        let world = World::new(alloc, nodes, version)?;
         Ok(Course {
-            world: World::new(alloc, nodes, version)?,
-            collectors: Some(NodeCollectors::new(alloc, nodes)?),
-            verdicts: Vec::new(alloc),
-            stopped: 0,
+            collected: CollectedWorld::begin(alloc, world, true)?,
+            telling: None,
         })
     }
 
-    /// The course of a history that others made, with the collectors of its nodes and the verdicts of its sweeps, the oldest
+    /// The course of the world, whose history others made, with the collectors of its nodes and the verdicts of its sweeps, the oldest
     /// first. Linear in the verdicts.
     pub fn of(world: World, collectors: NodeCollectors, verdicts: Vec<Verdict>) -> Course
         requires within { IsWithinLimits world.cluster world.past }
@@ -74,15 +93,9 @@ impl Course {
         requires verdicts { AreVerdicts world.cluster world.past (reverse verdicts.items) }
         ensures { result ≡ world }
     {
-        // No more actors are stopped than there are events.
-        world.is_lawful();
-        let _events = world.history().len();
-        let stopped = stopped_by_all(verdicts.as_slice());
         Course {
-            world,
-            collectors: Some(collectors),
-            verdicts,
-            stopped,
+            collected: CollectedWorld::of(world, collectors, verdicts),
+            telling: None,
         }
     }
 
@@ -98,76 +111,33 @@ impl Course {
         ensures halt { IfErr result (λ h. IsHalt h event self.old) }
         ensures err { OnErr result (self.new ≡ self.old) }
     {
-        match event {
-            Event::Hand { to, origin, number } => self.hand(to, origin, number),
-            Event::Sweep { node } => self.sweep(node),
-            event => self.happen(event),
+        match &mut self.telling {
+            Some(telling) => {
+                let start = telling.add_event(&self.collected, &event)?;
+                happen(&mut self.collected, telling, event, start)
+            }
+            None => self.collected.follow(event),
         }
     }
 
-    /// An event happens that is neither a hand nor a sweep.
+    /// The event whose line this is happens, as by `follow`; the line goes into the report as it is.
     #[inline(always)]
-    fn happen(&mut self, event: Event) -> Result<Told, Halt>
-        requires other { is_of_collector event ≡ false }
+    pub fn follow_line(&mut self, event: Event, line: &[u8]) -> Result<Told, Halt>
         requires few { CarriesFew event }
+        requires line { line.now ≡ event_line event }
         ensures told { IfOk result (λ told. told ≡ told_of event self.old.past) }
         ensures ok { OnOk result (Adds event self.old self.new) }
         ensures may { OnOk result (MayFollow event self.old) }
         ensures halt { IfErr result (λ h. IsHalt h event self.old) }
         ensures err { OnErr result (self.new ≡ self.old) }
     {
-        was_done(self.world.apply(&event))
-    }
-
-    /// A bulletin is handed to a node, and its collector takes it.
-    fn hand(&mut self, to: NodeId, origin: NodeId, number: u32) -> Result<Told, Halt>
-        ensures told { IfOk result (λ told. told ≡ told_of (events.Hand to origin number) self.old.past) }
-        ensures ok { OnOk result (Adds (events.Hand to origin number) self.old self.new) }
-        ensures may { OnOk result (MayFollow (events.Hand to origin number) self.old) }
-        ensures halt { IfErr result (λ h. IsHalt h (events.Hand to origin number) self.old) }
-        ensures err { OnErr result (self.new ≡ self.old) }
-    {
-        if self.collectors.is_none() {
-            return Err(Halt::NoMemory);
-        }
-        match was_done(self.world.apply(&Event::Hand { to, origin, number })) {
-            Ok(told) => {
-                take_in(&mut self.collectors, &mut self.world, to, origin, number);
-                Ok(told)
+        match &mut self.telling {
+            Some(telling) => {
+                let start = telling.add_line(&self.collected, line)?;
+                happen(&mut self.collected, telling, event, start)
             }
-            Err(halt) => Err(halt),
+            None => self.collected.follow(event),
         }
-    }
-
-    /// A node sweeps, with the verdict that its collector finds.
-    fn sweep(&mut self, node: NodeId) -> Result<Told, Halt>
-        ensures told { IfOk result (λ told. told ≡ told_of (events.Sweep node) self.old.past) }
-        ensures ok { OnOk result (Adds (events.Sweep node) self.old self.new) }
-        ensures may { OnOk result (MayFollow (events.Sweep node) self.old) }
-        ensures halt { IfErr result (λ h. IsHalt h (events.Sweep node) self.old) }
-        ensures err { OnErr result (self.new ≡ self.old) }
-    {
-        match may_sweep(&self.world, node) {
-            Ok(()) => {}
-            Err(halt) => return Err(halt),
-        }
-        if self.verdicts.reserve(1).is_err() {
-            return Err(Halt::NoMemory);
-        }
-        let verdict = verdict_of(&mut self.collectors, &self.world, node)?;
-        let told = match was_done(self.world.sweep(&verdict)) {
-            Ok(told) => told,
-            Err(halt) => {
-                self.collectors = None;
-                return Err(halt);
-            }
-        };
-        // No more actors are stopped than there are events.
-        self.world.is_lawful();
-        let _events = self.world.history().len();
-        self.stopped += verdict.stops.len() as u64;
-        self.verdicts.push_reserved(verdict);
-        Ok(told)
     }
 
     /// The history is always legal, and none of its events passed a limit. It does nothing: its contract is the law.
@@ -175,21 +145,21 @@ impl Course {
         ensures legal { IsLegal self.now.cluster self.now.past }
         ensures within { IsWithinLimits self.now.cluster self.now.past }
     {
-        self.world.is_lawful();
+        self.collected.is_lawful();
     }
 
     /// The world, in which the history is. Constant time.
     pub fn world(&self) -> &World
         ensures { result.now ≡ self.now }
     {
-        &self.world
+        self.collected.world()
     }
 
-    /// The history, without the rest. Constant time.
-    pub fn into_history(self) -> History
-        ensures { result ≡ self }
+    /// The record of the history, without the rest; None where none is kept. Constant time.
+    pub fn into_history(self) -> Option<History>
+        ensures { IfSome result (λ h. h ≡ self) }
     {
-        self.world.into_history()
+        self.collected.into_history()
     }
 
     /// The first number, from 0 on, under which no bulletin of the origin was handed to the node, which is up. `NoMemory` comes
@@ -201,10 +171,7 @@ impl Course {
         requires up { is_up to self.now.past ≡ true }
         ensures { IfOk result (IsFirstUnhanded to origin self.now.past) }
     {
-        match &self.collectors {
-            Some(collectors) => Ok(collectors.wants(to, origin)),
-            None => Err(NoMemory),
-        }
+        self.collected.wants(to, origin)
     }
 
     /// The number of nodes, 1 to 16. Constant time.
@@ -213,138 +180,119 @@ impl Course {
         ensures some { 1 ≤ result }
         ensures at_most { result ≤ 16 }
     {
-        self.world.history().nodes()
+        self.collected.world().nodes()
     }
 
     /// How many events the history has. Constant time.
     pub fn len(&self) -> u64
         ensures { result ≡ length self.now.past }
     {
-        self.world.history().len() as u64
+        self.collected.world().len() as u64
     }
 
     /// How many actors were stopped. Constant time.
     pub fn stopped(&self) -> u64
         ensures { result ≡ stopped_total self.now.cluster self.now.past }
     {
-        self.stopped
+        self.collected.stopped()
     }
 
-    /// What the sweep found that is the last event; None where the last event is none. Constant time.
-    pub fn last_verdict(&self) -> Option<&Verdict>
+    /// The verdicts of the sweeps, the oldest first; None where they are not kept. Constant time.
+    pub fn verdicts(&self) -> Option<&[Verdict]>
+        ensures { IfSome result (λ verdicts. AreVerdicts self.now.cluster self.now.past (reverse verdicts.now)) }
+    {
+        self.collected.verdicts()
+    }
+
+    /// What the last event found, where it is a sweep; None where it is none, or there is no event. Constant time.
+    pub fn last_verdict(&self, has_swept: bool) -> Option<&Verdict>
+        requires { has_swept ≡ ends_with_sweep self.now.past }
         ensures { MatchOption result (lines_made_due self.now.cluster self.now.past ≡ [])
             (λ v. lines_made_due self.now.cluster self.now.past ≡ lines_of_verdict self.now.cluster.nodes v.now) }
     {
-        let Some(_) = self.world.history().swept_last() else {
-            return None;
-        };
-        let verdict = self.verdicts.last()?;
-        // A cut is known to count all 16 nodes once one of its counts is read.
-        let _ = verdict.cut.at(verdict.node);
-        let _nodes = self.nodes();
-        Some(verdict)
+        self.collected.last_verdict(has_swept)
     }
 
-    /// The report, in brief or in full. The collectors are given up for it, so that it may have their memory, and no hand or sweep
-    /// can follow it. Linear in the events, the verdicts and the text.
+    /// The report, in brief or in full. `NoMemory` comes too where it is to be in full, and neither its text went on with the history
+    /// nor a record is kept of the events. The collectors are given up for it, so that it may have their memory, and no hand or sweep
+    /// can follow it. A report in brief takes constant time, and one in full whose text went on is linear in the lines of the last verdict;
+    /// any other is linear in the events, the verdicts and the text.
     pub fn report(&mut self, alloc: Global, brief: bool) -> Result<Vec<u8>, NoMemory>
         ensures text { IfOk result (λ text. text.items ≡ report_text self.old.cluster self.old.past brief) }
         ensures legal { IsLegal self.old.cluster self.old.past }
         ensures kept { self.new ≡ self.old }
     {
-        self.collectors = None;
-        self.world.is_lawful();
-        report(alloc, self.world.history(), self.verdicts.as_slice(), brief)
+        self.collected.is_lawful();
+        self.collected.give_up_collectors();
+        if brief {
+            return brief_report(alloc, self.collected.world());
+        }
+        match self.telling.take() {
+            Some(telling) => self.finish(telling),
+            None => recorded_report(alloc, &self.collected),
+        }
+    }
+
+    /// The report in full, of which this is the text so far.
+    fn finish(&mut self, telling: Telling) -> Result<Vec<u8>, NoMemory>
+        requires { IsTelling self.old telling.has_swept telling.text.items }
+        ensures text { IfOk result (λ text. text.items ≡ report_of self.old.cluster self.old.past) }
+        ensures kept { self.new ≡ self.old }
+    {
+        let mut telling = telling;
+        match telling.finish(&self.collected) {
+            Ok(()) => Ok(telling.text),
+            Err(NoMemory) => {
+                self.telling = Some(telling);
+                Err(NoMemory)
+            }
+        }
     }
 }
 
-/// What the event told, if the world did what it was asked.
-fn was_done(applied: Result<Applied, NoMemory>) -> Result<Told, Halt>
-    ensures { result ≡ outcome_of applied }
+/// The event happens, as by `follow`. Its line stands in the text behind the first so many bytes, and is taken back where it does not
+/// happen.
+#[inline(always)]
+fn happen(
+    collected: &mut CollectedWorld,
+    telling: &mut Telling,
+    event: Event,
+    start: usize,
+) -> Result<Told, Halt>
+    requires few { CarriesFew event }
+    requires telling { IsTelling collected.old telling.old.has_swept (take start telling.old.text.items) }
+    requires line { telling.old.text.items ≡ take start telling.old.text.items
+        ++ (text_of (lines_made_due collected.old.cluster collected.old.past) ++ line_of (event_line event)) }
+    ensures told { IfOk result (λ told. told ≡ told_of event collected.old.past) }
+    ensures ok { OnOk result (Adds event collected.old collected.new) }
+    ensures may { OnOk result (MayFollow event collected.old) }
+    ensures halt { IfErr result (λ h. IsHalt h event collected.old) }
+    ensures err { OnErr result (collected.new ≡ collected.old) }
+    ensures telling { IsTelling collected.new telling.new.has_swept telling.new.text.items }
 {
-    match applied {
-        Ok(Applied::Done(told)) => Ok(told),
-        Ok(Applied::Illegal(rule)) => Err(Halt::Rule(rule)),
-        Ok(Applied::Limit(which)) => Err(Halt::Limit(which)),
-        Err(_) => Err(Halt::NoMemory),
+    let has_swept = is_sweep(&event);
+    match collected.follow(event) {
+        Ok(told) => {
+            telling.has_swept = has_swept;
+            Ok(told)
+        }
+        Err(halt) => {
+            telling.text.truncate(start);
+            Err(halt)
+        }
     }
 }
 
-/// The collector of a node takes the bulletin that the world's last event hands to it; where memory runs out, the collectors are
-/// given up. The bulletin's spelling is kept until the last node's collector takes it.
-fn take_in(
-    collectors: &mut Option<NodeCollectors>,
-    world: &mut World,
-    to: NodeId,
-    origin: NodeId,
-    number: u32,
-)
-    requires last { slice_get world.old.past 0 ≡ Some (events.Hand to origin number) }
-    requires stand { IfSome collectors.old (AreCollectorsAt world.old.cluster (drop 1 world.old.past)) }
-    ensures world { world.new ≡ world.old }
-    ensures collectors { IfSome collectors.new (AreCollectorsAt world.old.cluster world.old.past) }
+/// The report in full from the record of the history and the verdicts, if they are kept.
+fn recorded_report(alloc: Global, collected: &CollectedWorld) -> Result<Vec<u8>, NoMemory>
+    ensures { IfOk result (λ text. text.items ≡ report_of collected.now.cluster collected.now.past) }
 {
-    let Some(rows) = collectors else {
-        return;
+    collected.is_lawful();
+    let Some(history) = collected.world().history() else {
+        return Err(NoMemory);
     };
-    let others_want = rows.others_want(to, origin, number);
-    keep_if(others_want, world, origin, number);
-    let handed = rows.hand(world, to, origin, number);
-    forget_if(!others_want, world, origin, number);
-    if handed.is_err() {
-        *collectors = None;
-    }
-}
-
-/// The bulletin's spelling is kept from now on, if it is to be.
-fn keep_if(is_wanted: bool, world: &mut World, origin: NodeId, number: u32)
-    ensures { world.new ≡ world.old }
-{
-    if is_wanted {
-        world.keep_spelling(origin, number);
-    }
-}
-
-/// The bulletin's spelling is kept no longer, if it need not be.
-fn forget_if(is_done: bool, world: &mut World, origin: NodeId, number: u32)
-    ensures { world.new ≡ world.old }
-{
-    if is_done {
-        world.forget_spelling(origin, number);
-    }
-}
-
-/// What hinders the sweep of a node, if anything does.
-fn may_sweep(world: &World, node: NodeId) -> Result<(), Halt>
-    ensures ok { OnOk result (MayFollow (events.Sweep node) world.now) }
-    ensures halt { IfErr result (λ h. IsHalt h (events.Sweep node) world.now) }
-{
-    let event = Event::Sweep { node };
-    if let Some(rule) = world.refusal(&event) {
-        return Err(Halt::Rule(rule));
-    }
-    match world.limit(&event)? {
-        Some(which) => Err(Halt::Limit(which)),
-        None => Ok(()),
-    }
-}
-
-/// The verdict of a sweep by the node, which is up; then its collector stands at the history with that sweep.
-fn verdict_of(
-    collectors: &mut Option<NodeCollectors>,
-    world: &World,
-    node: NodeId,
-) -> Result<Verdict, NoMemory>
-    requires node { node < world.now.cluster.nodes }
-    requires up { is_up node world.now.past ≡ true }
-    requires stand { IfSome collectors.old (AreCollectorsAt world.now.cluster world.now.past) }
-    ensures verdict { IfOk result (IsVerdict world.now.cluster node world.now.past) }
-    ensures found { IfOk result (IsFoundBySweep world.now) }
-    ensures ok { OnOk result (IfSome collectors.new (AreCollectorsAt world.now.cluster (events.Sweep node ∷ world.now.past))) }
-    ensures err { OnErr result (collectors.new ≡ collectors.old) }
-{
-    match collectors {
-        Some(rows) => rows.sweep(world, node),
+    match collected.verdicts() {
+        Some(verdicts) => full_report(alloc, history, verdicts),
         None => Err(NoMemory),
     }
 }

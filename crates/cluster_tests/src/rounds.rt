@@ -66,7 +66,7 @@ fn course_of_parts(alloc: Global) -> Result<Course, Fail> {
 
 #[test]
 fn a_round_tells_hands_and_sweeps_what_is_left(rt: HostRuntime) -> Result<(), Fail> {
-    let mut course = Course::begin(rt.alloc(), 1, 2)?;
+    let mut course = Course::begin(rt.alloc(), 1, 2, true)?;
     assert_eq!(rt; after_two_rounds(&mut course)?, (14, 15));
     Ok(())
 }

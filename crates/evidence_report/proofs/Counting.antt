@@ -10,10 +10,9 @@ use Rattle.history_model.specs.declared.records.Verdict.{Verdict}
 use Rattle.history_model.specs.Cluster.{Cluster, births}
 use Rattle.history_model.specs.Legal.{IsLegal}
 use Rattle.history_model.specs.Sweeps.{IsVerdict, stopped_by}
-use Rattle.journal_model.specs.Report.{stopped_on, stopped_total}
+use Rattle.journal_model.specs.Report.{stopped_total}
 use Rattle.journal_model.specs.Verdicts.{AreVerdicts}
-use Rattle.evidence_report.specs.Stops.{stops_in, stops_on}
-use Rattle.evidence_report.proofs.Stopping.{stopped-born}
+use Rattle.evidence_report.specs.Stops.{stops_in}
 use Rattle.evidence_report.proofs.Totals.{births-within, stopped-within}
 
 -- a verdict stops as many as the sweep
@@ -29,31 +28,14 @@ stops-total cl (Sweep m ∷ p) (v ∷ vs) are =
     omega (arith, sum_by-cons (λ w. length w.stops) v vs, stops-counted cl m p v are.0, stops-total cl p vs are.1)
 stops-total cl (_ ∷ p) vs are = stops-total cl p vs are
 
--- and so on each node
-stops-here : (cl : Cluster) (n : ℕ) (h : List Event) (vs : List Verdict) → AreVerdicts cl h vs → stops_on n vs ≡ stopped_on cl n h
-stops-here cl n [] [] are = refl
-stops-here cl n [] (v ∷ vs) are = absurd are
-stops-here cl n (Sweep m ∷ p) [] are = absurd are
-stops-here cl n (Sweep m ∷ p) (v ∷ vs) are =
-    let one : cond (v.node == n) (length v.stops) 0 ≡ cond (m == n) (length (stopped_by cl m p)) 0 = rw (are.0.node, stops-counted cl m p v are.0) refl in
-    omega (arith, sum_by-cons (λ w. cond (w.node == n) (length w.stops) 0) v vs, one, stops-here cl n p vs are.1)
-stops-here cl n (_ ∷ p) vs are = stops-here cl n p vs are
-
 -- in whatever order the verdicts come
 pub total-stopped : (cl : Cluster) (h : List Event) (vs : List Verdict) → AreVerdicts cl h (reverse vs) → stops_in vs ≡ stopped_total cl h
 total-stopped cl h vs are =
     sym (sum_by-IsPermutation (λ v. length v.stops) vs (reverse vs) (IsPermutation-reverse vs)) ∙ stops-total cl h (reverse vs) are
 
-pub node-stopped : (cl : Cluster) (n : ℕ) (h : List Event) (vs : List Verdict) → AreVerdicts cl h (reverse vs) → stops_on n vs ≡ stopped_on cl n h
-node-stopped cl n h vs are =
-    sym (sum_by-IsPermutation (λ v. cond (v.node == n) (length v.stops) 0) vs (reverse vs) (IsPermutation-reverse vs)) ∙ stops-here cl n h (reverse vs) are
-
 -- they are no more than the born, and no more than the events
-pub total-born : (cl : Cluster) (h : List Event) (vs : List Verdict) → IsLegal cl h → AreVerdicts cl h (reverse vs) → stops_in vs ≤ sum_by (λ n. births n h) (nodes_below cl.nodes)
+total-born : (cl : Cluster) (h : List Event) (vs : List Verdict) → IsLegal cl h → AreVerdicts cl h (reverse vs) → stops_in vs ≤ sum_by (λ n. births n h) (nodes_below cl.nodes)
 total-born cl h vs legal are = omega (arith, total-stopped cl h vs are, stopped-within cl h legal)
 
 pub total-fits : (cl : Cluster) (h : List Event) (vs : List Verdict) → IsLegal cl h → AreVerdicts cl h (reverse vs) → stops_in vs ≤ length h
 total-fits cl h vs legal are = omega (arith, total-born cl h vs legal are, births-within h cl.nodes)
-
-pub node-fits : (cl : Cluster) (n : ℕ) (h : List Event) (vs : List Verdict) → IsLegal cl h → AreVerdicts cl h (reverse vs) → stops_on n vs ≤ births n h
-node-fits cl n h vs legal are = omega (arith, node-stopped cl n h vs are, stopped-born cl h n legal)

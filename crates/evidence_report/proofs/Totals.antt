@@ -61,3 +61,8 @@ births-within (Spawn a ∷ p) k =
     let more = one-more (λ n. births n (Spawn a ∷ p)) (λ n. births n p) a.node k (λ n differ. one-birth a.node n (births n p) differ) (rw (eqb-refl a.node) refl) in
     omega (arith, more, births-within p k)
 births-within (_ ∷ p) k = omega (arith, births-within p k)
+
+-- and no more are stopped, on the first nodes
+pub stops-within : (cl : Cluster) (h : List Event) (k : ℕ) → IsLegal cl h → sum_by (λ n. stopped_on cl n h) (nodes_below k) ≤ length h
+stops-within cl h k legal =
+    omega (arith, sum_by-le-sum_by (λ n. stopped_on cl n h) (λ n. births n h) (nodes_below k) (λ n. stopped-born cl h n legal), births-within h k)

@@ -12,7 +12,8 @@ use event_lines::{append_end, append_event, append_header, append_verdict};
 use history_model::{Event, History, Verdict};
 use std::alloc::Global;
 
-/// The report in full. Linear in its length.
+/// The report of a legal history in full, with the verdicts of its sweeps, which are given in order: the header, the line of each
+/// event, after each sweep the line of its cut and one of each stop, and the end line. Linear in its length.
 pub fn full_report(
     alloc: Global,
     history: &History,

@@ -5,11 +5,11 @@ mod brief;
 mod counts;
 mod full;
 pub mod laws;
-mod reports;
 mod text;
 
+pub use brief::brief_report;
 pub use counts::stopped_by_all;
-pub use reports::report;
+pub use full::full_report;
 
 #[cfg(test)]
 mod tests;

@@ -4,7 +4,7 @@ ghost use Rattle.history_model.specs.declared.events.Event.TheVariants.{Crash as
 ghost use Rattle.history_model.specs.Rows.{actor as numbered, cluster, dropped_child as child_dropped, two_nodes_crashed, two_nodes_lost_together};
 ghost use Rattle.history_model.specs.Sweeps.{IsVerdict};
 
-use crate::report;
+use crate::full_report;
 use crgc_ids::{ActorId, ActorList, Cut, NodeId, NodeSet};
 use history_model::{Event, History, Stop, StopList, Verdict};
 use std::alloc::Global;
@@ -15,17 +15,10 @@ const DROPPED_CHILD: &str =
      flush 0.1\npublish 0\nhand 0 0 0\nsweep 0\ncut 0 1 lost\n\
      stop 0.1 by 0 received 0 told 0 admitted 0 owners 0.1\nend events 10 stopped 1\n";
 
-const DROPPED_CHILD_BRIEF: &str =
-    "crgc 1 nodes 1\nnode 0 born 2 stopped 1\ntotal born 2 stopped 1\n";
-
 const TWO_NODES_LOST: &str =
     "crgc 1 nodes 4\nseed 0\ncrash 2\ncrash 3\nremove 0 2\nremove 0 3\nremove 1 2\n\
      remove 1 3\nhand 0 0 0\nhand 0 0 1\nhand 0 1 0\nsweep 0\ncut 0 2 1 0 0 lost\n\
      hand 0 1 1\nsweep 0\ncut 0 2 2 0 0 lost 2 3\nend events 13 stopped 0\n";
-
-const TWO_NODES_LOST_BRIEF: &str =
-    "crgc 1 nodes 4\nnode 0 born 1 stopped 0\nnode 1 born 0 stopped 0\nnode 2 born 0 stopped 0\n\
-     node 3 born 0 stopped 0\ntotal born 1 stopped 0\n";
 
 fn numbered_node(number: u8) -> Result<NodeId, Fail>
     ensures { IfOk result (λ n. n ≡ number) }
@@ -113,10 +106,8 @@ fn dropped_child_found(alloc: Global) -> Result<Verdict, Fail>
 fn a_dropped_child_is_reported(rt: HostRuntime) -> Result<(), Fail> {
     let history = dropped_child(rt.alloc())?;
     let verdicts = [dropped_child_found(rt.alloc())?];
-    let full = report(rt.alloc(), &history, &verdicts, false)?;
+    let full = full_report(rt.alloc(), &history, &verdicts)?;
     assert_eq!(rt; full.as_slice(), DROPPED_CHILD.as_bytes());
-    let brief = report(rt.alloc(), &history, &verdicts, true)?;
-    assert_eq!(rt; brief.as_slice(), DROPPED_CHILD_BRIEF.as_bytes());
     Ok(())
 }
 
@@ -216,9 +207,7 @@ fn two_lost_found(alloc: Global) -> Result<Verdict, Fail>
 fn two_lost_nodes_are_reported(rt: HostRuntime) -> Result<(), Fail> {
     let history = two_lost(rt.alloc())?;
     let verdicts = [none_lost_found(rt.alloc())?, two_lost_found(rt.alloc())?];
-    let full = report(rt.alloc(), &history, &verdicts, false)?;
+    let full = full_report(rt.alloc(), &history, &verdicts)?;
     assert_eq!(rt; full.as_slice(), TWO_NODES_LOST.as_bytes());
-    let brief = report(rt.alloc(), &history, &verdicts, true)?;
-    assert_eq!(rt; brief.as_slice(), TWO_NODES_LOST_BRIEF.as_bytes());
     Ok(())
 }

@@ -1,8 +1,6 @@
 //! Events in eight bytes each, and the actors for which these have no room.
-ghost use Rattle.std.specs.Prelude.{◌≡◌, IfOk, List, length};
-ghost use Rattle.crgc_ids.specs.Actor.{Actor};
+ghost use Rattle.std.specs.Prelude.{◌≡◌, IfOk, length};
 ghost use Rattle.history_model.specs.Codes.{event_of, further_count};
-ghost use Rattle.history_model.specs.Cluster.{is_birth_on};
 
 use crate::events::Event;
 use crgc_ids::{ActorId, NoMemory, NodeId, RefList};
@@ -142,15 +140,4 @@ fn refs_of(alloc: Global, actors: &[ActorId]) -> Result<RefList, NoMemory>
         refs.push(*actor)?;
     }
     Ok(refs)
-}
-
-/// Whether an event with this code is a birth on the node. Constant time.
-pub fn is_birth(code: Code, node: NodeId) -> bool
-    ensures { (further : List Actor) → result ≡ is_birth_on node (event_of code further) }
-{
-    match code {
-        Code::Seed { node: n } => n == node,
-        Code::Spawn { parent } => parent.node() == node,
-        _ => false,
-    }
 }

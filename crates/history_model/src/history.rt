@@ -1,12 +1,11 @@
 //! The history of a cluster as a value.
-ghost use Rattle.std.specs.Prelude.{◌≡◌, ◌≢◌, ◌≤◌, [], ◌∷◌, ℕ, drop, length, reverse, slice_get, IfNone, IfOk, IfSome, OnErr, OnOk, Some};
-ghost use Rattle.history_model.specs.Cluster.{births};
+ghost use Rattle.std.specs.Prelude.{◌≡◌, ◌≤◌, [], ◌∷◌, drop, length, reverse, slice_get, IfOk, OnErr, OnOk};
 ghost use Rattle.history_model.specs.Codes.{event_of, further_count};
 ghost use Rattle.history_model.specs.declared.events.Event.TheVariants as events;
 
-use crate::codes::{Code, event_of, further_count, is_birth};
+use crate::codes::{Code, event_of, further_count};
 use crate::events::Event;
-use crgc_ids::{ActorId, NoMemory, NodeId, RefList};
+use crgc_ids::{ActorId, NoMemory, RefList};
 use std::alloc::Global;
 use std::marker::Model;
 
@@ -176,31 +175,6 @@ impl History {
             }
         }
         Ok(all)
-    }
-
-    /// The node that swept, where the last event is a sweep; None where it is none. Constant time.
-    pub fn swept_last(&self) -> Option<NodeId>
-        ensures some { IfSome result (λ n. slice_get self.now.past 0 ≡ Some (events.Sweep n)) }
-        ensures none { IfNone result ((n : ℕ) → slice_get self.now.past 0 ≢ Some (events.Sweep n)) }
-    {
-        match self.codes.last()? {
-            Code::Sweep { node } => Some(*node),
-            _ => None,
-        }
-    }
-
-    /// How many actors were born on the node. Linear in the events.
-    pub fn births(&self, node: NodeId) -> u64
-        ensures value { result ≡ births node self.now.past }
-        ensures bound { result ≤ length self.now.past }
-    {
-        let mut born = 0;
-        for code in &self.codes {
-            if is_birth(*code, node) {
-                born += 1;
-            }
-        }
-        born
     }
 
     /// The number of nodes, 1 to 16.

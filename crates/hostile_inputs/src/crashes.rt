@@ -33,7 +33,7 @@ pub fn tell_crashes(rt: &impl Print, alloc: Global, case: &Case<'_>) -> io::Resu
 /// The empty history of the cluster that the journal's header names.
 fn begin(alloc: Global, journal: &str) -> Option<Course> {
     let (nodes, version) = read_header(journal.lines().next()?.as_bytes())?;
-    Course::begin(alloc, nodes, version).ok()
+    Course::begin_recorded(alloc, nodes, version).ok()
 }
 
 fn tell_crash(
@@ -123,7 +123,7 @@ fn tell_actor(rt: &impl Print, alloc: Global, course: &Course, actor: ActorId) -
     let node = actor.node().get();
     let serial = actor.serial();
     let is_stopped = course.world().is_stopped(actor);
-    match is_quiescent(alloc, course.world().history(), actor) {
+    match is_quiescent_in(alloc, course, actor) {
         Ok(true) if is_stopped => print!(rt; ", {node}.{serial} stopped and quiescent"),
         Ok(true) => print!(rt; ", {node}.{serial} quiescent"),
         Ok(false) if is_stopped => print!(rt; ", {node}.{serial} stopped"),
@@ -132,10 +132,19 @@ fn tell_actor(rt: &impl Print, alloc: Global, course: &Course, actor: ActorId) -
     }
 }
 
+/// Whether the actor is quiescent, by the record of the history.
+fn is_quiescent_in(alloc: Global, course: &Course, actor: ActorId) -> Result<bool, NoMemory> {
+    match course.world().history() {
+        Some(history) => is_quiescent(alloc, history, actor),
+        None => Err(NoMemory),
+    }
+}
+
 /// The lines of the last verdict.
 fn tell_verdict(rt: &impl Print, alloc: Global, course: &Course) -> io::Result<()> {
     let mut text = Vec::new(alloc);
-    if let Some(verdict) = course.last_verdict()
+    if let Some(verdicts) = course.verdicts()
+        && let Some(verdict) = verdicts.last()
         && append_verdict(course.nodes(), verdict, &mut text).is_err()
     {
         return rt.println("no memory");

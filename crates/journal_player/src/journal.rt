@@ -35,21 +35,22 @@ pub struct Played {
 }
 
 /// The report of the history that the journal tells, in brief or in full, or why it tells none: its first faulty line with what
-/// is wrong there, or the limit that it passes. The text is given up part by part as it is followed, and is gone before the report
-/// is made. Linear in the text, beyond what the world and the collectors take for its events.
+/// is wrong there, or the limit that it passes. The text is given up part by part as it is followed: a report in full grows as
+/// the text is given up, and one in brief is made when it is gone. Linear in the text, beyond what the world and the collectors take
+/// for its events.
 pub fn play(alloc: Global, text: Vec<u8>, brief: bool) -> Result<Played, PlayFault>
     ensures report { IfOk result (λ played. (s : Story) × (journal_of text.items ≡ Ok s) × IsLegal s.cluster s.past
         × IsWithinLimits s.cluster s.past × IsRightlyCollected s.cluster s.past × (played.report.items ≡ report_text s.cluster s.past brief)) }
     ensures fault { IfErr result (λ f. IsPlayFault f (journal_of text.items)) }
 {
     a_legal_history_is_rightly_collected();
-    let mut cluster = followed(alloc, text)?;
+    let mut cluster = followed(alloc, text, brief)?;
     let report = cluster.report(alloc, brief)?;
     Ok(Played { report, cluster })
 }
 
-/// The player after all lines of the journal, or why it tells no history.
-fn followed(alloc: Global, text: Vec<u8>) -> Result<Player, PlayFault>
+/// The player after all lines of the journal, for a report in brief or in full, or why it tells no history.
+fn followed(alloc: Global, text: Vec<u8>, brief: bool) -> Result<Player, PlayFault>
     ensures told { IfOk result (λ player. journal_of text.items ≡ Ok (record { cluster = player.cluster; past = player.replay.past })) }
     ensures fault { IfErr result (λ f. IsPlayFault f (journal_of text.items)) }
 {
@@ -63,7 +64,7 @@ fn followed(alloc: Global, text: Vec<u8>) -> Result<Player, PlayFault>
         return Err(NO_HEADER);
     };
     let read = text.len() - rest.len();
-    let mut player = Player::begin(alloc, nodes, version)?;
+    let mut player = Player::begin(alloc, nodes, version, brief)?;
     match follow_all(alloc, &mut player, text, read) {
         Ok(()) => Ok(player),
         Err(fault) => Err(fault),

@@ -2,17 +2,20 @@
 ghost use Rattle.std.specs.Prelude.{◌≡◌, ◌≤◌, ◌<◌, ◌+◌, ◌^◌, slice_get, Ok, IfOk, IfErr, IfSome, OnOk};
 ghost use Rattle.history_model.specs.Legal.{IsLegal};
 ghost use Rattle.journal_model.specs.Journals.{after_counts, after_event, after_line, after_said, after_told};
+ghost use Rattle.journal_model.specs.Lines.{event_line};
+ghost use Rattle.journal_model.specs.Reading.{read_line};
 ghost use Rattle.journal_model.specs.Verdicts.{report_text};
 ghost use Rattle.run_model.specs.Schedule.{IsWithinLimits};
-ghost use Rattle.true_config.specs.Applying.{CarriesFew};
+ghost use Rattle.true_config.specs.Applying.{CarriesFew, is_sweep};
 ghost use Rattle.cluster_course.specs.Due.{lines_made_due};
+ghost use Rattle.cluster_course.specs.Telling.{ends_with_sweep};
 ghost use Rattle.journal_player.specs.Faults.{IsHalt};
 ghost use Rattle.journal_player.specs.Following.{start};
 ghost use Rattle.journal_player.specs.Hearing.{LineCarriesFew};
 
 use crate::due::verdict_line;
 use crate::fault::{Cause, Halt};
-use cluster_course::Course;
+use cluster_course::{Course, is_sweep};
 use crgc_ids::{NoMemory, Octets};
 use event_lines::{LineRead, read};
 use history_model::Event;
@@ -24,21 +27,31 @@ use std::marker::Model;
 #[derive(Drop)]
 pub struct Player {
     course: Course,
+    has_swept: bool,
     told: usize,
     ended: bool,
 }
 
 impl Model for Player {
+    ghost use Rattle.std.specs.Prelude.{◌≡◌};
+    ghost use Rattle.cluster_course.specs.Telling.{ends_with_sweep};
     ghost use Rattle.journal_player.specs.Following.{Following, following};
 
     ghost Value = { Following };
 
     ghost view = { λ p. following p.course p.told p.ended };
+
+    ghost invariant = { λ p. p.has_swept ≡ ends_with_sweep p.course.past };
 }
 
 impl Player {
-    /// Before the first event.
-    pub(crate) fn begin(alloc: Global, nodes: u8, version: u8) -> Result<Player, NoMemory>
+    /// Before the first event, for a report in brief or in full.
+    pub(crate) fn begin(
+        alloc: Global,
+        nodes: u8,
+        version: u8,
+        brief: bool,
+    ) -> Result<Player, NoMemory>
         requires some_node { 1 ≤ nodes }
         requires nodes { nodes ≤ 16 }
         requires some_version { 1 ≤ version }
@@ -48,13 +61,14 @@ impl Player {
         ensures replay { IfOk result (λ p. p.replay ≡ start) }
     {
         Ok(Player {
-            course: Course::begin(alloc, nodes, version)?,
+            course: Course::begin(alloc, nodes, version, brief)?,
+            has_swept: false,
             told: 0,
             ended: false,
         })
     }
 
-    /// The next line is followed, or the answer is its fault; then all is as before. An event in the time that the world and the
+    /// The next line is followed, or the answer is its fault. An event in the time that the world and the
     /// collectors take for it, any other line in linear time, and an end line in constant time.
     pub(crate) fn follow(&mut self, alloc: Global, line: &[u8]) -> Result<(), Halt>
         ensures cluster { self.new.cluster ≡ self.old.cluster }
@@ -75,27 +89,31 @@ impl Player {
     /// What the next line says is followed.
     fn hear(&mut self, alloc: Global, line: &[u8], said: Line) -> Result<(), Halt>
         requires few { LineCarriesFew said }
+        requires said { read_line line.now ≡ Ok said }
         ensures cluster { self.new.cluster ≡ self.old.cluster }
         ensures ok { OnOk result (after_said self.old.cluster self.old.replay line.now said ≡ Ok self.new.replay) }
         ensures halt { IfErr result (λ h. IsHalt h (after_said self.old.cluster self.old.replay line.now said)) }
     {
         match said {
-            Line::Event(event) => self.happen(event),
+            Line::Event(event) => self.happen(event, line),
             Line::Cut { .. } => self.repeat(alloc, line),
             Line::Stop { .. } => self.repeat(alloc, line),
             Line::End { events, stopped } => self.end(events, stopped),
         }
     }
 
-    /// An event, after which only the lines of its verdict are due.
-    fn happen(&mut self, event: Event) -> Result<(), Halt>
+    /// The event whose line this is, after which only the lines of its verdict are due.
+    fn happen(&mut self, event: Event, line: &[u8]) -> Result<(), Halt>
         requires few { CarriesFew event }
+        requires line { line.now ≡ event_line event }
         ensures cluster { self.new.cluster ≡ self.old.cluster }
         ensures ok { OnOk result (after_event self.old.cluster self.old.replay event ≡ Ok self.new.replay) }
         ensures halt { IfErr result (λ h. IsHalt h (after_event self.old.cluster self.old.replay event)) }
     {
-        match self.course.follow(event) {
+        let has_swept = is_sweep(&event);
+        match self.course.follow_line(event, line) {
             Ok(_) => {
+                self.has_swept = has_swept;
                 self.told = 0;
                 self.ended = false;
                 Ok(())
@@ -110,7 +128,7 @@ impl Player {
         ensures ok { OnOk result (after_told self.old.replay self.old.replay.due line.now ≡ Ok self.new.replay) }
         ensures halt { IfErr result (λ h. IsHalt h (after_told self.old.replay self.old.replay.due line.now)) }
     {
-        let Some(due) = due_line(alloc, &self.course, self.told)? else {
+        let Some(due) = due_line(alloc, &self.course, self.has_swept, self.told)? else {
             return Err(Halt::Cause(Cause::Differs));
         };
         if due.as_slice() == line {
@@ -133,7 +151,8 @@ impl Player {
         Ok(())
     }
 
-    /// The report, in brief or in full, after which no hand or sweep can follow. Linear in the events, the verdicts and the text.
+    /// The report, in brief or in full, after which no hand or sweep can follow. `NoMemory` comes too where it is to be in full and
+    /// the player began for one in brief. One in brief takes constant time, one in full is linear in the lines of the last verdict.
     pub(crate) fn report(&mut self, alloc: Global, brief: bool) -> Result<Vec<u8>, NoMemory>
         ensures text { IfOk result (λ text. text.items ≡ report_text self.old.cluster self.old.replay.past brief) }
         ensures legal { IsLegal self.old.cluster self.old.replay.past }
@@ -146,11 +165,17 @@ impl Player {
 }
 
 /// The line that is due after so many of those that the last event made due; None exactly where none is. Linear in the line.
-fn due_line(alloc: Global, course: &Course, told: usize) -> Result<Option<Octets>, NoMemory>
+fn due_line(
+    alloc: Global,
+    course: &Course,
+    has_swept: bool,
+    told: usize,
+) -> Result<Option<Octets>, NoMemory>
+    requires { has_swept ≡ ends_with_sweep course.now.past }
     ensures line { IfOk result (λ line. line ≡ slice_get (lines_made_due course.now.cluster course.now.past) told) }
     ensures room { IfOk result (λ line. IfSome line (λ _. told + 1 < 2 ^ 64)) }
 {
-    match course.last_verdict() {
+    match course.last_verdict(has_swept) {
         Some(verdict) => verdict_line(alloc, course.nodes(), verdict, told),
         None => Ok(None),
     }

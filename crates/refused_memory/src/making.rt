@@ -59,11 +59,11 @@ pub fn course_of(trial: &mut Trial, journal: &str) -> io::Result<Course> {
     let Some((nodes, version)) = read_header(header.as_bytes()) else {
         return Err(io::ErrorKind::InvalidData.into());
     };
-    if let Ok(course) = Course::begin(trial.alloc, nodes, version) {
+    if let Ok(course) = Course::begin_recorded(trial.alloc, nodes, version) {
         return Ok(course);
     }
     trial.make_anew();
-    second(Course::begin(trial.alloc, nodes, version))
+    second(Course::begin_recorded(trial.alloc, nodes, version))
 }
 
 /// The report of the history.

@@ -14,8 +14,8 @@ const NUMBERS: u32 = 3;
 pub fn draw_course(text: &mut String, course: &Course) -> Result<(), AllocError> {
     let len = course.len();
     let stopped = course.stopped();
-    let verdict = course.last_verdict();
-    writeln!(text, "len {len} stopped {stopped} last verdict {verdict:?}")
+    let verdicts = course.verdicts();
+    writeln!(text, "len {len} stopped {stopped} verdicts {verdicts:?}")
 }
 
 /// What the collectors of the nodes that are up want; nothing where they are given up.

@@ -17,13 +17,14 @@ use history_model::Event;
 use script_reader::Script;
 use std::alloc::Global;
 
-/// The course of a script's cluster, with the script's seeds and ties, in order. In the time of these events.
-pub(crate) fn begin_course(alloc: Global, script: &Script) -> Result<Course, RunFault>
+/// The course of a script's cluster, with the script's seeds and ties, in order, for a report in brief or in full. In the time of these
+/// events.
+pub(crate) fn begin_course(alloc: Global, script: &Script, brief: bool) -> Result<Course, RunFault>
     requires { IsScript script.now }
     ensures begun { IfOk result (λ c. IsBegun script.now (beginning script.now) c) }
     ensures fault { IfErr result (HaltsOn (cluster_of script.now) (beginning script.now)) }
 {
-    let mut course = Course::begin(alloc, script.nodes, 2)?;
+    let mut course = Course::begin(alloc, script.nodes, 2, brief)?;
     let seeds = match seed_all(&mut course, alloc, script) {
         Ok(seeds) => seeds,
         Err(fault) => return Err(fault),

@@ -34,14 +34,14 @@ pub struct Driver {
 }
 
 impl Driver {
-    /// The run at the script's beginning, with its seeds and ties.
-    pub(crate) fn begin(alloc: Global, script: Script) -> Result<Driver, RunFault>
+    /// The run at the script's beginning, with its seeds and ties, for a report in brief or in full.
+    pub(crate) fn begin(alloc: Global, script: Script, brief: bool) -> Result<Driver, RunFault>
         requires { IsScript script }
         ensures script { IfOk result (λ d. d.script.value ≡ script) }
         ensures between { IfOk result IsBetween }
         ensures fault { IfErr result (IsRunFault script) }
     {
-        match begin_course(alloc, &script) {
+        match begin_course(alloc, &script, brief) {
             Ok(course) => Ok(Driver::with_course(alloc, script, course)?),
             Err(fault) => Err(fault),
         }

@@ -24,7 +24,7 @@ pub fn run(alloc: Global, script: Script, brief: bool) -> Result<Ran, RunFault>
     ensures report { IfOk result (λ ran. ReportsFixed script brief ran.report.items) }
     ensures fault { IfErr result (IsRunFault script) }
 {
-    let mut cluster = Driver::begin(alloc, script)?;
+    let mut cluster = Driver::begin(alloc, script, brief)?;
     cluster.go_on()?;
     let report = cluster.close(brief)?;
     Ok(Ran { report, cluster })

@@ -54,7 +54,7 @@ streams_send : IsSend Streams.the_row
 streams_send = search (crosses, sendable) depth 60 fits 100000
 
 world_send : IsSend World.the_row
-world_send = search (crosses, sendable, history_send, traffic_send, roster_send, streams_send) depth 40
+world_send = search (crosses, sendable, history_send, traffic_send, roster_send, streams_send) depth 60 fits 100000
 
 actors_send : IsSend Actors.the_row
 actors_send = search (crosses, sendable) depth 40

@@ -52,7 +52,10 @@ fn close_anew(alloc: Global, world: World, brief: bool) -> Result<Finished, Work
     ensures fault { IfErr result (IsHalfClosed world) }
 {
     world.is_lawful();
-    match course_of(alloc, world.into_history()) {
+    let Some(history) = world.into_history() else {
+        return Err(WorkersFault::NoMemory);
+    };
+    match course_of(alloc, history) {
         Ok(course) => close(alloc, course, brief),
         Err(NoMemory) => Err(WorkersFault::NoMemory),
     }
@@ -66,7 +69,9 @@ fn close(alloc: Global, mut course: Course, brief: bool) -> Result<Finished, Wor
     match round(&mut course) {
         Ok(()) => {}
         Err(RoundHalt::Limit(which)) => {
-            let history = course.into_history();
+            let Some(history) = course.into_history() else {
+                return Err(WorkersFault::NoMemory);
+            };
             return Err(WorkersFault::Limit { which, history });
         }
         Err(RoundHalt::NoMemory) => return Err(WorkersFault::NoMemory),
@@ -74,7 +79,9 @@ fn close(alloc: Global, mut course: Course, brief: bool) -> Result<Finished, Wor
     course.is_lawful();
     match course.report(alloc, brief) {
         Ok(report) => {
-            let history = course.into_history();
+            let Some(history) = course.into_history() else {
+                return Err(WorkersFault::NoMemory);
+            };
             Ok(Finished { report, history })
         }
         Err(NoMemory) => Err(WorkersFault::NoMemory),
@@ -88,7 +95,7 @@ fn course_of(alloc: Global, history: History) -> Result<Course, NoMemory>
     requires few { CarryFew history.past }
     ensures { IfOk result (λ c. c ≡ history) }
 {
-    let mut course = Course::begin(alloc, history.nodes(), history.version())?;
+    let mut course = Course::begin_recorded(alloc, history.nodes(), history.version())?;
     let mut events = history.events();
     while let Some(event) = events.next(alloc)? {
         follow_next(&mut course, event)?;

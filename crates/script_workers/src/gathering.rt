@@ -50,7 +50,7 @@ fn add_new(
     requires { AreRowsAt world.now.cluster world.now.past rows.old.items }
     ensures { AreRowsAt world.now.cluster world.now.past rows.new.items }
 {
-    let nodes = world.history().nodes();
+    let nodes = world.nodes();
     while rows.len() < below as usize {
         let node = match NodeId::new(rows.len() as u8) {
             Some(node) if node.get() < nodes && !world.is_up(node) => node,

@@ -78,7 +78,9 @@ fn end_run(alloc: Global, worked: Worked, brief: bool) -> Result<Finished, Worke
     match halted {
         None => close_run(alloc, world, verdicts, back, brief),
         Some(which) => {
-            let history = world.into_history();
+            let Some(history) = world.into_history() else {
+                return Err(WorkersFault::NoMemory);
+            };
             Err(WorkersFault::Limit { which, history })
         }
     }

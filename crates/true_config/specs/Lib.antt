@@ -4,3 +4,4 @@ pub mod Pairs
 pub mod Promises
 pub mod Readings
 pub mod Steps
+pub mod Tracks

@@ -8,8 +8,9 @@ ghost use Rattle.true_config.specs.Steps.{Adds, MayFollow};
 
 use crate::World;
 use crate::applied::{Applied, Told};
+use crate::track::Track;
 use crgc_ids::{ActorId, MOST_EVENTS, NoMemory, Which};
-use history_model::{Event, History};
+use history_model::Event;
 
 impl World {
     /// A rest and the crash of its node, or a flush and the publish of its node: both happen, or the answer is what hinders the
@@ -93,7 +94,7 @@ impl World {
 }
 
 /// Puts two events last, or, after `NoMemory`, none of them.
-pub(crate) fn push_both(history: &mut History, first: Event, second: Event) -> Result<(), NoMemory>
+pub(crate) fn push_both(history: &mut Track, first: Event, second: Event) -> Result<(), NoMemory>
     ensures cluster { history.new.cluster ≡ history.old.cluster }
     ensures ok { OnOk result (history.new.past ≡ second ∷ first ∷ history.old.past) }
     ensures err { OnErr result (history.new.past ≡ history.old.past) }
@@ -107,7 +108,7 @@ pub(crate) fn push_both(history: &mut History, first: Event, second: Event) -> R
 }
 
 /// Takes the last two events back.
-pub(crate) fn take_back_both(history: &mut History)
+pub(crate) fn take_back_both(history: &mut Track)
     ensures cluster { history.new.cluster ≡ history.old.cluster }
     ensures past { history.new.past ≡ drop 1 (drop 1 history.old.past) }
 {

@@ -13,9 +13,10 @@ ghost use Rattle.true_config.specs.Steps.{Adds, MayFollow};
 use crate::World;
 use crate::applied::{Applied, Told};
 use crate::both::{push_both, take_back_both};
+use crate::track::Track;
 use bulletin_streams::BulletinStreams;
 use crgc_ids::{ActorId, MOST_EVENTS, NoMemory, Which};
-use history_model::{Event, History};
+use history_model::Event;
 use roster::Roster;
 
 impl World {
@@ -88,7 +89,7 @@ fn enqueue_copy(
 /// is the limit that this would pass. After any answer but None, and after `NoMemory`, all is as before.
 fn publish_queue(
     streams: &mut BulletinStreams,
-    history: &mut History,
+    history: &mut Track,
     actor: ActorId,
 ) -> Result<Option<Which>, NoMemory>
     requires fits { CountsFit (entries_ledger (stream_at streams.old actor.node).entries) }

@@ -16,6 +16,7 @@ mod readers;
 mod spelling;
 mod sweeping;
 mod telling;
+mod track;
 mod working;
 mod world;
 

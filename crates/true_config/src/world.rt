@@ -1,5 +1,5 @@
 //! The world.
-ghost use Rattle.std.specs.Prelude.{◌≡◌, ◌≢◌, ◌≤◌, nat_lt, not, length, true, false, [], IfOk};
+ghost use Rattle.std.specs.Prelude.{◌≡◌, ◌≢◌, ◌≤◌, nat_lt, not, length, true, false, [], IfOk, IfSome};
 ghost use Rattle.history_model.specs.Cluster.{births, is_born};
 ghost use Rattle.history_model.specs.Held.{held};
 ghost use Rattle.history_model.specs.Legal.{has_nothing, is_parent};
@@ -10,6 +10,7 @@ ghost use Rattle.history_model.specs.Streams.{can_flush, is_blank, queue, stream
 ghost use Rattle.history_model.specs.Sweeps.{is_stopped};
 ghost use Rattle.traffic.specs.Readings.{IsNextReady};
 
+use crate::track::Track;
 use bulletin_streams::BulletinStreams;
 use crgc_ids::{ActorId, NoMemory, NodeId};
 use history_model::History;
@@ -22,7 +23,7 @@ use traffic::Traffic;
 /// and its events, the newest first.
 #[derive(Drop)]
 pub struct World {
-    pub(crate) history: History,
+    pub(crate) history: Track,
     pub(crate) traffic: Traffic,
     pub(crate) roster: Roster,
     pub(crate) streams: BulletinStreams,
@@ -40,7 +41,7 @@ impl Model for World {
 }
 
 impl World {
-    /// The empty history of a cluster: all nodes are up, and no actor was born.
+    /// The empty history of a cluster: all nodes are up, and no actor was born. A record is kept of its events.
     pub fn new(alloc: Global, nodes: u8, version: u8) -> Result<World, NoMemory>
         requires some_node { 1 ≤ nodes }
         requires nodes { nodes ≤ 16 }
@@ -50,7 +51,29 @@ impl World {
         ensures version { IfOk result (λ w. w.cluster.version ≡ version) }
         ensures past { IfOk result (λ w. w.past ≡ []) }
     {
-        let history = History::new(alloc, nodes, version);
+        World::begin(alloc, Track::recorded(alloc, nodes, version))
+    }
+
+    /// The same, and no record is kept: the events take no room.
+    pub fn unrecorded(alloc: Global, nodes: u8, version: u8) -> Result<World, NoMemory>
+        requires some_node { 1 ≤ nodes }
+        requires nodes { nodes ≤ 16 }
+        requires some_version { 1 ≤ version }
+        requires version { version ≤ 2 }
+        ensures nodes { IfOk result (λ w. w.cluster.nodes ≡ nodes) }
+        ensures version { IfOk result (λ w. w.cluster.version ≡ version) }
+        ensures past { IfOk result (λ w. w.past ≡ []) }
+    {
+        World::begin(alloc, Track::unrecorded(alloc, nodes, version))
+    }
+
+    /// The world of this history, which is empty.
+    fn begin(alloc: Global, history: Track) -> Result<World, NoMemory>
+        requires { history.past ≡ [] }
+        ensures { IfOk result (λ w. w ≡ history) }
+    {
+        let nodes = history.nodes();
+        let version = history.version();
         let Ok(traffic) = Traffic::new(alloc, nodes) else {
             return Err(NoMemory);
         };
@@ -68,23 +91,32 @@ impl World {
         })
     }
 
-    /// The history. Constant time.
-    pub fn history(&self) -> &History
-        ensures { result.now ≡ self.now }
+    /// The record of the history; None where none is kept. Constant time.
+    pub fn history(&self) -> Option<&History>
+        ensures { IfSome result (λ h. h.now ≡ self.now) }
     {
-        &self.history
+        self.history.history()
     }
 
-    /// The history, without the rest. Constant time.
-    pub fn into_history(self) -> History
-        ensures { result ≡ self }
+    /// The record of the history, without the rest; None where none is kept. Constant time.
+    pub fn into_history(self) -> Option<History>
+        ensures { IfSome result (λ h. h ≡ self) }
     {
-        self.history
+        self.history.into_history()
     }
 
-    /// The number of nodes. Constant time.
+    /// How many events the history has. Constant time.
+    pub fn len(&self) -> usize
+        ensures { result ≡ length self.now.past }
+    {
+        self.history.len()
+    }
+
+    /// The number of nodes, 1 to 16. Constant time.
     pub fn nodes(&self) -> u8
-        ensures { result ≡ self.now.cluster.nodes }
+        ensures nodes { result ≡ self.now.cluster.nodes }
+        ensures some { 1 ≤ result }
+        ensures at_most { result ≤ 16 }
     {
         self.history.nodes()
     }

@@ -37,7 +37,7 @@ fn play_all(rt: &impl Print, alloc: Global, lines: &[String], order: Order) -> i
         if let Some((nodes, version)) = read_header(line.as_bytes()) {
             end(rt, alloc, &mut course, order)?;
             println!(rt; "{line}")?;
-            course = Course::begin(alloc, nodes, version).ok();
+            course = Course::begin_recorded(alloc, nodes, version).ok();
         } else if let Some(course) = &mut course {
             go_on(rt, alloc, course, line, order)?;
         }

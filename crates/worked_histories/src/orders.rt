@@ -88,7 +88,8 @@ fn sweep(rt: &impl Print, alloc: Global, course: &mut Course, number: u8) -> io:
         return Ok(());
     }
     let mut text = Vec::new(alloc);
-    if let Some(verdict) = course.last_verdict()
+    if let Some(verdicts) = course.verdicts()
+        && let Some(verdict) = verdicts.last()
         && append_verdict(course.nodes(), verdict, &mut text).is_err()
     {
         return rt.println("no memory");

@@ -1,6 +1,7 @@
 //! What is so after an event.
 use cluster_course::Course;
 use crgc_ids::{ActorId, NoMemory, NodeId};
+use history_model::History;
 use quiet_check::{is_quiescent, is_quiet_point};
 use std::alloc::Global;
 use std::io;
@@ -54,7 +55,7 @@ fn is_so(
     quiescent: bool,
 ) -> Result<bool, NoMemory> {
     if quiescent {
-        is_quiescent(alloc, course.world().history(), actor)
+        is_quiescent(alloc, record_of(course)?, actor)
     } else {
         Ok(course.world().is_stopped(actor))
     }
@@ -65,9 +66,19 @@ fn tell_node(rt: &impl Print, alloc: Global, course: &Course, number: u8) -> io:
     let Some(node) = NodeId::new(number) else {
         return Ok(());
     };
-    match is_quiet_point(alloc, course.world().history(), node) {
+    match is_quiet(alloc, course, node) {
         Ok(true) => print!(rt; " {number}"),
         Ok(false) => Ok(()),
         Err(NoMemory) => rt.print(" no memory"),
     }
+}
+
+/// Whether this is a quiet point of the node.
+fn is_quiet(alloc: Global, course: &Course, node: NodeId) -> Result<bool, NoMemory> {
+    is_quiet_point(alloc, record_of(course)?, node)
+}
+
+/// The record of the history, of which each course here keeps one.
+fn record_of(course: &Course) -> Result<&History, NoMemory> {
+    course.world().history().ok_or(NoMemory)
 }

@@ -55,7 +55,10 @@ fn follow_all<R: Print + Threads + Sync>(
 ) -> io::Result<()>
     requires { AreSettled collectors.old }
 {
-    let events = made(world.history().to_vec(alloc))?;
+    let Some(history) = world.history() else {
+        return Err(io::ErrorKind::InvalidData.into());
+    };
+    let events = made(history.to_vec(alloc))?;
     for (place, event) in events.as_slice().iter().enumerate() {
         follow(rt, alloc, world, collectors, place, event, found)?;
     }

@@ -28,7 +28,7 @@ fn begin(alloc: Global, header: &str) -> io::Result<Course> {
     let Some((nodes, version)) = read_header(header.as_bytes()) else {
         return Err(io::ErrorKind::InvalidData.into());
     };
-    made(Course::begin(alloc, nodes, version))
+    made(Course::begin_recorded(alloc, nodes, version))
 }
 
 /// The line's event happens, if it spells one.

@@ -126,7 +126,7 @@ fn one_node_works_tells_and_crashes(rt: HostRuntime) -> Result<(), Fail> {
     assert!(rt; world.bulletin(node, 0).is_some());
     assert!(rt; world.bulletin(node, 1).is_none());
     let down = world.refusal(&Event::Wake { actor: second });
-    assert_eq!(rt; (down, world.history().len()), (Some(Rule::Down), 13));
+    assert_eq!(rt; (down, world.len()), (Some(Rule::Down), 13));
     Ok(())
 }
 
@@ -179,7 +179,7 @@ fn a_message_on_a_link_is_admitted_once(rt: HostRuntime) -> Result<(), Fail> {
     for (line, told) in steps {
         assert_eq!(rt; follow(rt.alloc(), &mut world, line)?.as_str(), told);
     }
-    assert_eq!(rt; (world.stream_len(at), world.history().len()), (1, 12));
+    assert_eq!(rt; (world.stream_len(at), world.len()), (1, 12));
     Ok(())
 }
 
@@ -205,6 +205,6 @@ fn two_events_follow_at_once(rt: HostRuntime) -> Result<(), Fail> {
     follow(rt.alloc(), &mut world, "wake 0.0")?;
     let done = world.apply_both(&Event::Rest { actor }, &Event::Crash { node })?;
     assert!(rt; matches!(done, Applied::Done(Told::Plain)));
-    assert_eq!(rt; (world.is_up(node), world.history().len()), (false, 6));
+    assert_eq!(rt; (world.is_up(node), world.len()), (false, 6));
     Ok(())
 }

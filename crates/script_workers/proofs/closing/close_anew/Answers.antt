@@ -7,4 +7,4 @@ use Rattle.script_workers.proofs.closing.close_anew.Goals as goal
 pub course_of-requires-clause-few : goal.course_of-requires-clause-few
 course_of-requires-clause-few c =
     let within = c.is_lawful.ensures.within in
-    subst (λ (h : Story). CarryFew h.past) (sym c.into_history.ensures) (carry-few c.args.world.past within.ranges)
+    subst (λ (h : Story). CarryFew h.past) (sym c.in-Some.ensures) (carry-few c.args.world.past within.ranges)

@@ -1,4 +1,4 @@
-use Rattle.std.proofs.Common.{◌≡◌, sym, ◌∙◌}
+use Rattle.std.proofs.Common.{sym, ◌∙◌}
 use Rattle.history_model.proofs.CodesLemmas.{past-length}
 use Rattle.history_model.proofs.history.History.len.Goals as goal
 
